@@ -1,0 +1,6 @@
+pub mod Codes
+pub mod Inserts
+pub mod Orders
+pub mod Searches
+pub mod Shifts
+pub mod Spellings

@@ -1,0 +1,4 @@
+pub mod Pairs
+pub mod Slots
+pub mod Tags
+pub mod Text

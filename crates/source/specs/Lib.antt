@@ -1,0 +1,4 @@
+pub mod Standings
+pub mod Reading
+pub mod Questions
+pub mod Refusals
