@@ -1,0 +1,3 @@
+mod Picks
+mod Standings
+mod Readings

@@ -1,0 +1,4 @@
+pub mod Sizes
+pub mod Format
+pub mod Held
+pub mod Builtin
