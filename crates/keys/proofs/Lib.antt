@@ -3,4 +3,3 @@ pub mod Inserts
 pub mod Orders
 pub mod Searches
 pub mod Shifts
-pub mod Spellings

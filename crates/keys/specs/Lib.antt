@@ -1,4 +1,3 @@
 pub mod Pairs
 pub mod Slots
 pub mod Tags
-pub mod Text

@@ -3,7 +3,6 @@ pub mod order;
 pub mod pairs;
 pub mod slots;
 pub mod tags;
-pub mod text;
 
 pub use order::IndexKey;
 pub use order::Key;
@@ -15,7 +14,6 @@ pub use slots::find;
 pub use slots::insert;
 pub use tags::Tag;
 pub use tags::TagKey;
-pub use text::TagDisplay;
 
 #[cfg(test)]
 mod tests;

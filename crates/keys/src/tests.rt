@@ -13,7 +13,6 @@ use crate::slots::find;
 use crate::slots::insert;
 use crate::tags::Tag;
 use crate::tags::TagKey;
-use crate::text::TagDisplay;
 use std::cmp::Ordering;
 use std::test::*;
 
@@ -55,16 +54,6 @@ fn orders_tags() -> Result<(), Fail> {
     check_eq(insert(&mut slots, 3, default), Ok(3))?;
     check_eq(find(&slots[0..3], latin), Ok(2))?;
     check_eq(slots[1].to_bytes(), *b"cyrl")
-}
-
-#[test]
-fn shows_tags(rt: LibcRuntime) -> Result<(), Fail> {
-    let latin = Tag::new(*b"latn");
-    let odd = Tag::new([0, 0x1F, 0xAB, 0x7F]);
-    check_eq(
-        format!(rt.alloc(), "{latin} {odd}")?.as_str(),
-        "latn 0x001FAB7F",
-    )
 }
 
 #[test]
