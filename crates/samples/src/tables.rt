@@ -2,6 +2,8 @@ ghost use mathlib.Core.Path.{_≡_};
 ghost use Rattle.source.specs.declared.parts.Kind.the-variants.{Gsub, Gpos};
 ghost use Rattle.table.specs.Format.{read-table};
 ghost use Rattle.rows.specs.Builtin.{builtin-reading};
+ghost use Rattle.numbering.specs.Stages.{survivors, earliest-of};
+ghost use mathlib.Core.List.{[], _∷_};
 ghost use Rattle.samples.specs.Varied.{varied-reading};
 
 const FIRST_FONT: [u8; 126] = [
@@ -434,4 +436,18 @@ pub fn varied_font() -> &'static [u8]
     ensures { λ r. ⌜ read-table Gpos (now r) ≡ varied-reading ⌝ }
 {
     &VARIED_FONT
+}
+
+// Of the built-in font, with lookups 0 and 1 and all features kept: the features that survive.
+pub fn first_font_survivors() -> [u16; 4]
+    ensures { λ r. ⌜ r ≡ survivors builtin-reading (0 ∷ 1 ∷ []) (0 ∷ 1 ∷ 2 ∷ 3 ∷ 4 ∷ []) ⌝ }
+{
+    [0, 1, 2, 4]
+}
+
+// The earliest match of each of them: lookup 3 is not kept, so features 1 and 2 match.
+pub fn first_font_matches() -> [u16; 4]
+    ensures { λ r. ⌜ r ≡ earliest-of builtin-reading (0 ∷ 1 ∷ []) (survivors builtin-reading (0 ∷ 1 ∷ []) (0 ∷ 1 ∷ 2 ∷ 3 ∷ 4 ∷ [])) ⌝ }
+{
+    [0, 1, 1, 4]
 }

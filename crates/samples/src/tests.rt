@@ -1,5 +1,8 @@
 use crate::tables::first_font;
+use crate::tables::first_font_matches;
+use crate::tables::first_font_survivors;
 use crate::tables::varied_font;
+use numbering::join_features;
 use source::Condition;
 use source::ConditionDebug;
 use source::ConditionPartialEq;
@@ -140,4 +143,19 @@ fn tables_that_are_refused() -> Result<(), Fail> {
     large[3] = 1;
     check_eq(refused(&large[0..13]), Some(2))?;
     check_eq(refused(&large[0..14]), None)
+}
+
+#[test]
+fn first_font_joins() -> Result<(), Fail> {
+    let t = first()?;
+    let mut survivors = [9u16; 5];
+    let mut earliest = [9u16; 5];
+    let Some(joins) = join_features(&t, &[0, 1], &[0, 1, 2, 3, 4], &mut survivors, &mut earliest)
+    else {
+        return Err(Fail::new("refused"));
+    };
+    check_eq(joins.survivors, 4)?;
+    check_eq(joins.matched, 4)?;
+    check(&survivors[0..4] == first_font_survivors())?;
+    check(&earliest[0..4] == first_font_matches())
 }
