@@ -1,0 +1,13 @@
+pub mod Parts
+pub mod Keeps
+pub mod Embeds
+pub mod Openings
+pub mod Pools
+pub mod Packings
+pub mod Fielding
+pub mod Layings
+pub mod Marking
+pub mod Assigning
+pub mod Carrying
+pub mod Copying
+pub mod Reading
