@@ -1,4 +1,6 @@
 // What a terminal program needs: the words of its command, the file that they name, and text to print.
+#![tactic(auto)]
+
 mod arguments;
 mod counts;
 mod files;

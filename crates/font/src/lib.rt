@@ -1,4 +1,6 @@
 // Finding a table in a font file (sfnt).
+#![tactic(auto)]
+
 mod directory;
 mod reads;
 mod tables;

@@ -1,4 +1,6 @@
 // Shows what a layout table says, or numbers its features: the built-in one, or one of a font file.
+#![tactic(auto)]
+
 mod features;
 mod fields;
 mod scripts;

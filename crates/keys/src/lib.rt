@@ -1,4 +1,6 @@
 // Ordered keys: what a key type owes, three key types, and a search and an insertion over a slice of keys in order.
+#![tactic(auto)]
+
 pub mod order;
 pub mod pairs;
 pub mod slots;

@@ -1,4 +1,6 @@
 // Which features of a layout table are retained, and under which numbers.
+#![tactic(auto)]
+
 mod alternates;
 mod chains;
 mod equals;

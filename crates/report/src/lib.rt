@@ -1,4 +1,6 @@
 // What a numbering makes of the features of a table, told in lines of text.
+#![tactic(auto)]
+
 mod choices;
 mod fates;
 mod faults;

@@ -1,4 +1,6 @@
 // A layout table that lies in given rows, and the built-in font.
+#![tactic(auto)]
+
 mod answers;
 mod font;
 mod ranges;

@@ -1,4 +1,6 @@
 // Layout tables, byte by byte or as rows, with what they say and how their features are numbered.
+#![tactic(auto)]
+
 mod alike;
 mod numbers;
 mod tables;

@@ -1,4 +1,6 @@
 // A sink of objects: bytes with links between them, shared where they are equal, and laid end to end.
+#![tactic(auto)]
+
 mod assigns;
 mod copies;
 mod equals;

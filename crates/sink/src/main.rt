@@ -1,4 +1,6 @@
 // Shows an object sink at work: objects packed and shared, one discarded, a record refused, and all of it laid.
+#![tactic(auto)]
+
 mod halt;
 mod hex;
 #[cfg(test)]

@@ -1,4 +1,6 @@
 // What a layout table (GSUB or GPOS) says, asked for part by part, without saying where it lies.
+#![tactic(auto)]
+
 mod parts;
 mod questions;
 mod refusals;

@@ -1,4 +1,6 @@
 // A source over the bytes of a layout table.
+#![tactic(auto)]
+
 mod answers;
 mod bytes;
 mod fields;

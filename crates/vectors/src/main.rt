@@ -1,4 +1,6 @@
 // Answers numbering cases: those of numbers.txt, compared with the answers recorded there, or those of the input.
+#![tactic(auto)]
+
 mod answers;
 mod cases;
 mod hex;
