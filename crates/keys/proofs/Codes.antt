@@ -1,8 +1,9 @@
 -- A number of 32 bits and its four bytes. Assumes nothing.
-use Rattle.std.proofs.Common.{◌≡◌, ℕ, ◌+◌, ◌*◌, ◌/◌, ◌%◌, ◌^◌, ◌<◌, List, [], ◌∷◌, length, get_or, Ordering, Less, Equal, Greater, refl, ⊎_elim, arith}
+use Rattle.std.proofs.Common.{◌≡◌, ℕ, ◌+◌, ◌*◌, ◌/◌, ◌%◌, ◌^◌, ◌<◌, List, [], ◌∷◌, length, get_or, Ordering, Less, Equal, Greater, sym, ap, ◌∙◌, ⊎_elim, arith}
 use native.Mathlib.Nat.{div-div-eq-div-mul}
-use Rattle.std.specs.Cmp.Lexicographic.{Lex}
-use Rattle.std.specs.Ordering.{MatchOrdering, Then}
+use Rattle.std.specs.Cmp.Lexicographic.{slice_cmp}
+use Rattle.std.specs.Cmp.{nat_cmp_is}
+use Rattle.std.specs.Ordering.{MatchOrdering, nat_cmp, ordering_then}
 use Rattle.std.proofs.lemmas.List.{same_lists, places}
 use Rattle.std.proofs.lemmas.Bool.{cases_order}
 use Rattle.keys.specs.Tags.{coded, spelt}
@@ -38,42 +39,30 @@ spelt-coded n bs is long h0 h1 h2 h3 =
 abbrev Compares : ℕ → ℕ → Ordering → Type 0
 Compares a b r = MatchOrdering r (a < b) (a ≡ b) (b < a)
 
-less : (a b : ℕ) (r : Ordering) → Compares a b r → a < b → r ≡ Less
-less a b Less h lt = refl
-less a b Equal h lt = absurd (omega arith)
-less a b Greater h lt = absurd (omega arith)
-
-equal : (a b : ℕ) (r : Ordering) → Compares a b r → a ≡ b → r ≡ Equal
-equal a b Less h e = absurd (omega arith)
-equal a b Equal h e = refl
-equal a b Greater h e = absurd (omega arith)
-
-greater : (a b : ℕ) (r : Ordering) → Compares a b r → b < a → r ≡ Greater
-greater a b Less h lt = absurd (omega arith)
-greater a b Equal h lt = absurd (omega arith)
-greater a b Greater h lt = refl
-
 -- one pair of bytes decides, or leaves it to the next
-step : (a b x y : ℕ) (r : Ordering) (Q : Ordering → Type 0) → Compares a b r → (x < y → a < b) → (y < x → b < a) → (x ≡ y → Q r) → Then (Compares x y) Q r
-step a b x y r Q h lt gt eq =
+step : (a b x y : ℕ) (r q : Ordering) → Compares a b r → (x < y → a < b) → (y < x → b < a) → (x ≡ y → r ≡ q) → r ≡ ordering_then (nat_cmp x y) q
+step a b x y r q h lt gt eq =
+    let is = nat_cmp_is a b r h in
     ⊎_elim
-    (λ e. (Equal, e, eq e))
-    (⊎_elim (λ l. (Less, l, less a b r h (lt l))) (λ g. (Greater, g, greater a b r h (gt g))))
+    (λ e. let same : nat_cmp x y ≡ Equal = sym (nat_cmp_is x y Equal e) in eq e ∙ ap (λ o. ordering_then o q) (sym same))
+    (⊎_elim
+    (λ l. is ∙ (sym (nat_cmp_is a b Less (lt l)) ∙ ap (λ o. ordering_then o q) (nat_cmp_is x y Less l)))
+    (λ g. is ∙ (sym (nat_cmp_is a b Greater (gt g)) ∙ ap (λ o. ordering_then o q) (nat_cmp_is x y Greater g))))
     (cases_order x y)
 
 module _ (a b a0 a1 a2 a3 b0 b1 b2 b3 : ℕ) (r : Ordering) (h : Compares a b r)
     (ea : coded (a0 ∷ a1 ∷ a2 ∷ a3 ∷ []) ≡ a) (eb : coded (b0 ∷ b1 ∷ b2 ∷ b3 ∷ []) ≡ b) (fa : (a1 < 256) × (a2 < 256) × (a3 < 256))
     (fb : (b1 < 256) × (b2 < 256) × (b3 < 256)) where
-  by_digits : Lex Compares (a0 ∷ a1 ∷ a2 ∷ a3 ∷ []) (b0 ∷ b1 ∷ b2 ∷ b3 ∷ []) r
+  by_digits : r ≡ slice_cmp nat_cmp (a0 ∷ a1 ∷ a2 ∷ a3 ∷ []) (b0 ∷ b1 ∷ b2 ∷ b3 ∷ [])
   by_digits =
-      step a b a0 b0 r (Lex Compares (a1 ∷ a2 ∷ a3 ∷ []) (b1 ∷ b2 ∷ b3 ∷ [])) h (λ l. omega arith) (λ l. omega arith)
-      (λ e0. step a b a1 b1 r (Lex Compares (a2 ∷ a3 ∷ []) (b2 ∷ b3 ∷ [])) h (λ l. omega arith) (λ l. omega arith)
-      (λ e1. step a b a2 b2 r (Lex Compares (a3 ∷ []) (b3 ∷ [])) h (λ l. omega arith) (λ l. omega arith)
-      (λ e2. step a b a3 b3 r (Lex Compares [] []) h (λ l. omega arith) (λ l. omega arith)
-      (λ e3. equal a b r h (omega arith)))))
+      step a b a0 b0 r _ h (λ l. omega arith) (λ l. omega arith)
+      (λ e0. step a b a1 b1 r _ h (λ l. omega arith) (λ l. omega arith)
+      (λ e1. step a b a2 b2 r _ h (λ l. omega arith) (λ l. omega arith)
+      (λ e2. step a b a3 b3 r _ h (λ l. omega arith) (λ l. omega arith)
+      (λ e3. let e : a ≡ b = omega arith in nat_cmp_is a b r h ∙ sym (nat_cmp_is a b Equal e)))))
 
 -- two numbers compare as their bytes do, first byte first
-pub by_bytes : (a b : ℕ) (r : Ordering) → a < 2 ^ 32 → b < 2 ^ 32 → Compares a b r → Lex Compares (spelt a) (spelt b) r
+pub by_bytes : (a b : ℕ) (r : Ordering) → a < 2 ^ 32 → b < 2 ^ 32 → Compares a b r → r ≡ slice_cmp nat_cmp (spelt a) (spelt b)
 by_bytes a b r fa fb h =
     by_digits a b _ _ _ _ _ _ _ _ r h (coded-spelt a fa) (coded-spelt b fb)
     (omega arith, omega arith, omega arith)

@@ -3,6 +3,7 @@ use Rattle.std.proofs.Common.{◌⊎◌, ⊎_elim}
 use borrow.Fn.World.{World}
 use denote.RattleType.{RattleType}
 use mir.Syntax.{Dict}
+use Rattle.std.specs.declared.clone.Clone.{Ghosts as CloneGhosts}
 use Rattle.keys.specs.declared.order.Key.{Ghosts}
 use Rattle.keys.specs.contracts.order.Key.TheBound.{Met}
 
@@ -50,7 +51,7 @@ module _ {X : Type 0} {before same : X → X → Type 0} (o : Ordered before sam
       (o.total x z)
 
 -- the laws that a bound `K: Key` brings
-pub ordered : {w : World} {K : RattleType} {k : Ghosts K.Denot} {f : Dict} → Met w.𝓛 w.𝓜 w.𝓡 w.𝓡.env K k f → Ordered k.before k.same
+pub ordered : {w : World} {K : RattleType} {k : Ghosts K.Denot} {f : Dict} {c : CloneGhosts K.Denot} {d : Dict} → Met w.𝓛 w.𝓜 w.𝓡 w.𝓡.env K k f c d → Ordered k.before k.same
 ordered m = record {
   total = m.total;
   before_not_same = m.before_not_same;

@@ -6,8 +6,8 @@
 --     ByBytes x y r      r compares the bytes of x and y, first byte first: the first pair that differs decides
 use Rattle.std.specs.Prelude.{◌≡◌, ℕ, ◌+◌, ◌*◌, ◌/◌, ◌%◌, ◌<◌, List, [], ◌∷◌, slice_index}
 use Rattle.std.specs.declared.cmp.Ordering.{Ordering}
-use Rattle.std.specs.Ordering.{MatchOrdering}
-use Rattle.std.specs.Cmp.Lexicographic.{Lex}
+use Rattle.std.specs.Ordering.{nat_cmp}
+use Rattle.std.specs.Cmp.Lexicographic.{slice_cmp}
 use Rattle.keys.specs.declared.tags.Tag.{Tag}
 
 abbrev pub coded : List ℕ → ℕ
@@ -23,4 +23,4 @@ abbrev pub TagSame : Tag → Tag → Type 0
 TagSame x y = x.code ≡ y.code
 
 abbrev pub ByBytes : Tag → Tag → Ordering → Type 0
-ByBytes x y r = Lex (λ a b o. MatchOrdering o (a < b) (a ≡ b) (b < a)) (spelt x.code) (spelt y.code) r
+ByBytes x y r = r ≡ slice_cmp nat_cmp (spelt x.code) (spelt y.code)

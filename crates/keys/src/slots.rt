@@ -12,8 +12,8 @@ pub struct Full;
 
 // The place of `key` in keys that ascend, or the place where it would go.
 pub fn find<K: Key>(keys: &[K], key: K) -> Result<usize, usize>
-    ensures found { Found same keys.now key result }
-    ensures placed { Ascending before keys.now → Placed before same keys.now key result }
+    ensures found { Found K.same keys.now key result }
+    ensures placed { Ascending K.before keys.now → Placed K.before K.same keys.now key result }
 {
     let mut low = 0;
     let mut high = keys.len();
@@ -30,8 +30,8 @@ pub fn find<K: Key>(keys: &[K], key: K) -> Result<usize, usize>
 
 // Whether `key` is among keys that ascend.
 pub fn contains<K: Key>(keys: &[K], key: K) -> bool
-    ensures held { result ≡ true → Held same keys.now key }
-    ensures found { Ascending before keys.now → Held same keys.now key → result ≡ true }
+    ensures held { result ≡ true → Held K.same keys.now key }
+    ensures found { Ascending K.before keys.now → Held K.same keys.now key → result ≡ true }
 {
     match find(keys, key) {
         Ok(_) => true,
@@ -55,9 +55,9 @@ fn put<K: Key>(slots: &mut [K], at: usize, end: usize, key: K)
 
 // Puts `key` among the first `len` slots, which are filled in order, and answers how many are filled then.
 pub fn insert<K: Key>(slots: &mut [K], len: usize, key: K) -> Result<usize, Full>
-    ensures inserted { Inserted before same len key slots.old slots.new result }
-    ensures ascending { Ascending before (filled len slots.old) → MatchResult result (λ n. Ascending before (filled n slots.new)) (λ _. Ascending before slots.new) }
-    ensures joined { IfOk result (λ n. Joined same (filled len slots.old) (filled n slots.new) key) }
+    ensures inserted { Inserted K.before K.same len key slots.old slots.new result }
+    ensures ascending { Ascending K.before (filled len slots.old) → MatchResult result (λ n. Ascending K.before (filled n slots.new)) (λ _. Ascending K.before slots.new) }
+    ensures joined { IfOk result (λ n. Joined K.same (filled len slots.old) (filled n slots.new) key) }
 {
     let end = len.min(slots.len());
     match find(&slots[0..end], key) {

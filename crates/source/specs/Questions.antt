@@ -3,8 +3,7 @@
 --   script_record, lang_sys_record, feature_record, variation_record, substitution_record    an entry of a list, by its place
 --   script, lang_sys_of, feature, conditions, substitution    the table that an entry leads to
 --   head, list-head, ...    what is answered of a table besides the numbers that it lists
-use Rattle.std.specs.Prelude.{ℕ, List, [], length, Option, slice_index_or}
-use Rattle.std.specs.List.{slice_get}
+use Rattle.std.specs.Prelude.{ℕ, List, [], length, slice_index_or}
 use Rattle.source.specs.declared.parts.Standing.{Standing}
 use Rattle.source.specs.declared.parts.Standing.TheVariants.{Absent, Unreadable, There}
 use Rattle.source.specs.declared.parts.Condition.{Condition}
@@ -17,7 +16,7 @@ use Rattle.source.specs.declared.parts.FeatureParams.{FeatureParams}
 use Rattle.source.specs.declared.parts.FeatureParams.TheVariants.{Size, StylisticSet, CharacterVariant}
 use Rattle.source.specs.declared.parts.Variations.{Variations}
 use Rattle.source.specs.declared.parts.Substitution.{Substitution}
-use Rattle.source.specs.Standings.{mapped, listed}
+use Rattle.source.specs.Standings.{listed}
 use Rattle.source.specs.Reading.{LangSysTable, LangSysRecord, ScriptTable, ScriptRecord, Params, FeatureTable, FeatureRecord, SubstitutionRecord, SubstitutionTable, VariationRecord, VariationsTable, Reading}
 use Rattle.source.specs.Reading.Params.{size, stylistic_set, character_variant}
 
