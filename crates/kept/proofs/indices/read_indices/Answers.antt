@@ -14,7 +14,7 @@ loop-k-preserved c =
     let h : c.loop-k.k < length (vec_items c.in-ok-parts.parts) =
     omega (arith, c.in-ok-parts.parts.ok.0, c.len-k-end.ensures, c.loop-k-test.true) in
     let e = part_at (vec_items c.in-ok-parts.parts) c.loop-k.k c.index.result.now h c.index.ensures in
-    (c.put-range.ensures.ascending c.loop-k.invariant.0, ranges_more _ _ _ c.loop-k.k (c.in-Some.first, c.in-Some.last) c.loop-k.invariant.1 (subst (λ p. Ranges p (c.in-Some.first, c.in-Some.last)) (sym e) c.in-Some.ensures) (search rules))
+    (c.put_range.ensures.ascending c.loop-k.invariant.0, ranges_more _ _ _ c.loop-k.k (c.in-Some.first, c.in-Some.last) c.loop-k.invariant.1 (subst (λ p. Ranges p (c.in-Some.first, c.in-Some.last)) (sym e) c.in-Some.ensures) (search rules))
 
 pub returns : goal.returns
 returns c =

@@ -9,4 +9,4 @@ from-two bs a b (Some p) e h = (h.0, inr (a, b, e, h.1))
 
 pub returns-in-Some : goal.returns-in-Some
 returns-in-Some c =
-    from-two _ c.in-Some.first.now c.in-Some.last.now c.read-two.result (split_parts 45 c.args.text.now (Some (c.in-Some.first, c.in-Some.last)) c.in-Some.ensures.cases (lit< tt)).0 c.read-two.ensures
+    from-two _ c.in-Some.first.now c.in-Some.last.now c.read_two.result (split_parts 45 c.args.text.now (Some (c.in-Some.first, c.in-Some.last)) c.in-Some.ensures.cases (lit< tt)).0 c.read_two.ensures

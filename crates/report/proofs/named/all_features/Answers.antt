@@ -10,4 +10,4 @@ loop-index-preserved g c =
 pub returns : goal.returns
 returns g c =
     let e : c.loop-index.index ≡ c.count-index-end.result = omega arith in
-    (c.loop-index.invariant.0, filled-all [] _ 0 c.loop-index.index _ (e ∙ (c.count-index-end.ensures ∙ ap counted c.feature-list.ensures)) c.loop-index.invariant.1)
+    (c.loop-index.invariant.0, filled-all [] _ 0 c.loop-index.index _ (e ∙ (c.count-index-end.ensures ∙ ap counted c.feature_list.ensures)) c.loop-index.invariant.1)

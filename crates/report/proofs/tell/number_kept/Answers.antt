@@ -5,9 +5,9 @@ use Rattle.report.proofs.tell.number_kept.Goals as goal
 
 pub returns-in-Ok : goal.returns-in-Ok
 returns-in-Ok g c =
-    answered-by _ _ _ _ _ _ c.as-slice.ensures.value c.as-slice-2.ensures.value c.as-slice-3.ensures.value (g.S.Source.reading c.args.source.now) (Ok c.in-Ok.numbering) c.in-Ok.ensures.2
+    answered-by _ _ _ _ _ _ c.as_slice.ensures.value c.as_slice-2.ensures.value c.as_slice-3.ensures.value (g.S.Source.reading c.args.source.now) (Ok c.in-Ok.numbering) c.in-Ok.ensures.2
 
 pub returns-in-Refused : goal.returns-in-Refused
 returns-in-Refused g c =
-    let t = subst (Turned (g.S.Source.reading c.args.source.now) c.as-slice.result.now c.as-slice-2.result.now c.as-slice-3.result.now) c.in-Refused.is c.in-Err.ensures in
-    answered-by _ _ _ _ _ _ c.as-slice.ensures.value c.as-slice-2.ensures.value c.as-slice-3.ensures.value (g.S.Source.reading c.args.source.now) (Err c.in-Refused.refusal) (t.1, t.2)
+    let t = subst (Turned (g.S.Source.reading c.args.source.now) c.as_slice.result.now c.as_slice-2.result.now c.as_slice-3.result.now) c.in-Refused.is c.in-Err.ensures in
+    answered-by _ _ _ _ _ _ c.as_slice.ensures.value c.as_slice-2.ensures.value c.as_slice-3.ensures.value (g.S.Source.reading c.args.source.now) (Err c.in-Refused.refusal) (t.1, t.2)

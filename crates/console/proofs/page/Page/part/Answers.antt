@@ -10,7 +10,7 @@ returns-in-ok-end c =
     let over : fits page.column item ≡ false = search rules in
     let text : codes "\n" ++ codes "          " ≡ gap page.column item = search rules in
     let column : column_after c.end.new.self.column (codes "          ") ≡ gap_column page.column item = search rules in
-    let put = c.put-else-saturating-add-lt-WIDTH in
+    let put = c.put-else-saturating_add-lt-WIDTH in
     record {
       text =
           text-then put.result (written page) (written c.end.new.self) (written put.new.self) (codes "\n") (codes "          ")
