@@ -6,8 +6,8 @@ use std::alloc::AllocError;
 
 // Puts a key in its place in a set, unless it is there.
 pub fn put<K: Key>(set: &mut Vec<K>, key: K) -> Result<(), AllocError>
-    ensures ascending { Ascending before set.old.items → Ascending before set.new.items }
-    ensures joined { OnOk result (Joined same set.old.items set.new.items key) }
+    ensures ascending { Ascending K.before set.old.items → Ascending K.before set.new.items }
+    ensures joined { OnOk result (Joined K.same set.old.items set.new.items key) }
 {
     match find(set.as_slice(), key) {
         Ok(_) => Ok(()),

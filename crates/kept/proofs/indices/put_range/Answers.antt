@@ -9,12 +9,12 @@ pub loop-index-preserved : goal.loop-index-preserved
 loop-index-preserved c =
     (λ up. c.put.ensures.ascending (c.loop-index.invariant.0 up), filled_more _ _ _ c.args.first c.loop-index.index (omega arith) c.loop-index.invariant.1 (search rules))
 
-pub returns-in-err-put : goal.returns-in-err-put
-returns-in-err-put c =
+pub returns-in_err-put : goal.returns-in_err-put
+returns-in_err-put c =
     record { ascending = λ up. c.put.ensures.ascending (c.loop-index.invariant.0 up); filled = search rules }
 
-pub returns-in-ok-put : goal.returns-in-ok-put
-returns-in-ok-put c =
+pub returns-in_ok-put : goal.returns-in_ok-put
+returns-in_ok-put c =
     record { ascending = λ up. c.put.ensures.ascending (c.loop-index.invariant.0 up); filled = filled-all _ _ c.args.first (c.loop-index.index + 1) _ (omega arith) (filled_more _ _ _ c.args.first c.loop-index.index (omega arith) c.loop-index.invariant.1 (search rules)) }
 
 pub returns : goal.returns

@@ -3,7 +3,7 @@ use Rattle.std.proofs.lemmas.List.{append_assoc}
 use Rattle.console.proofs.Adding.{text-then, column-then}
 use Rattle.console.specs.Pages.{written, column_after, comma, comma_column, gap, gap_column, item_text, item_column}
 use Rattle.console.proofs.page.Page.item.Goals as goal
-use Rattle.console.proofs.page.Page.item.Goals.{then-before-gt0+in-ok-put, else-before-gt0}
+use Rattle.console.proofs.page.Page.item.Goals.{then-before-gt0+in_ok-put, else-before-gt0}
 
 pub returns : goal.returns
 returns c =
@@ -13,10 +13,10 @@ returns c =
     let n = comma_column page.column k in
     let now = c.if-before-gt0.self in
     let text_at : written now ≡ written page ++ comma k =
-    elim c.if-before-gt0.branch [ then-before-gt0+in-ok-put w ↦ search rules | else-before-gt0 w ↦ search rules ]
+    elim c.if-before-gt0.branch [ then-before-gt0+in_ok-put w ↦ search rules | else-before-gt0 w ↦ search rules ]
     in
     let column-at : now.column ≡ n =
-    elim c.if-before-gt0.branch [ then-before-gt0+in-ok-put w ↦ search rules | else-before-gt0 w ↦ search rules ]
+    elim c.if-before-gt0.branch [ then-before-gt0+in_ok-put w ↦ search rules | else-before-gt0 w ↦ search rules ]
     in
     let parted : written c.part.new.self ≡ written now ++ gap now.column item = search rules in
     let before : written c.part.new.self ≡ written page ++ (comma k ++ gap n item) =

@@ -3,8 +3,8 @@ use Rattle.console.proofs.Adding.{text-then, column-then}
 use Rattle.console.specs.Pages.{written, column_after, fits, gap, gap_column}
 use Rattle.console.proofs.page.Page.part.Goals as goal
 
-pub returns-in-ok-end : goal.returns-in-ok-end
-returns-in-ok-end c =
+pub returns-in_ok-end : goal.returns-in_ok-end
+returns-in_ok-end c =
     let page = c.args.self.now in
     let item = c.args.item.now in
     let over : fits page.column item ≡ false = search rules in
