@@ -1,5 +1,5 @@
 -- One part more, of a list of ranges and of a list of tags.
-use Rattle.std.proofs.Common.{◌≡◌, ℕ, ◌+◌, ◌<◌, ◌≤◌, List, [], map, length, get_or, Some, sym, refl, ap, ◌∙◌, inl, inr, ⊎_elim, arith, Bor, below_more}
+use Rattle.std.proofs.Common.{◌≡◌, ℕ, ◌+◌, ◌<◌, List, [], map, length, get_or, Some, sym, refl, ap, ◌∙◌, inl, inr, ⊎_elim, arith, Bor, below_more}
 use Rattle.std.proofs.lemmas.List.{get_or-map}
 use Rattle.keys.specs.Slots.{Joined}
 use Rattle.keys.specs.Tags.{TagSame}

@@ -2,7 +2,7 @@
 use Rattle.std.proofs.Common.{◌≡◌, ℕ, ◌+◌, ◌<◌, ◌≤◌, List, subst, inl, inr, ⊎_elim, arith}
 use Rattle.std.proofs.lemmas.Bool.{cases_lt}
 use Rattle.keys.specs.Slots.{Joined}
-use Rattle.kept.specs.Ranges.{Has, Filled}
+use Rattle.kept.specs.Ranges.{Filled}
 
 pub filled_none : (xs : List ℕ) (i : ℕ) → Filled xs xs i i
 filled_none xs i n = (inl, ⊎_elim (λ h. h) (λ (a, b). absurd (omega arith)))

@@ -1,5 +1,5 @@
 -- What one key more makes of a set. Assumes nothing but the laws of a key type.
-use Rattle.std.proofs.Common.{◌≡◌, ℕ, ◌≤◌, cond, List, length, is_ok, Ok, Err, Result, sym, ap, ◌∙◌, subst}
+use Rattle.std.proofs.Common.{◌≡◌, ℕ, ◌≤◌, cond, List, length, is_ok, Ok, Result, sym, ap, ◌∙◌, subst}
 use Rattle.std.specs.List.{insert}
 use Rattle.keys.specs.Slots.{Ascending, At, Held, Between, Joined}
 use Rattle.keys.proofs.Inserts.{ascending-inserted, joined-inserted, joined-known}
