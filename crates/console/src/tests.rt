@@ -6,11 +6,11 @@ use std::test::Fail;
 fn texts(rt: HostRuntime) -> Result<(), Fail> {
     let heap = rt.alloc();
     let (tag, number) = (TagText(0x4C415420), TagText(0x00010AFF));
-    assert!(rt; format!(in heap; "{tag}|{number}")? == "LAT |0x00010AFF");
+    assert!(rt; format!(in heap; "{tag}|{number}")?.as_str() == "LAT |0x00010AFF");
     let (low, high) = (Fixed(0xC000), Fixed(0x1333));
-    assert!(rt; format!(in heap; "{low}|{high}")? == "-1.0000|0.3000");
+    assert!(rt; format!(in heap; "{low}|{high}")?.as_str() == "-1.0000|0.3000");
     let (a, smile) = (CodePoint(0x61), CodePoint(0x1F600));
-    assert!(rt; format!(in heap; "{a}|{smile}")? == "U+0061|U+1F600");
+    assert!(rt; format!(in heap; "{a}|{smile}")?.as_str() == "U+0061|U+1F600");
     Ok(())
 }
 

@@ -12,7 +12,7 @@ const FONT: [u8; 46] =
 fn a_table_is_found(rt: HostRuntime) -> Result<(), Fail> {
     match find_table(&FONT, GSUB) {
         Found::Table(bytes) => {
-            assert!(rt; bytes == b"\x07\x08");
+            assert!(rt; bytes == b"\x07\x08".as_slice());
             Ok(())
         },
         _ => Err(Fail::new("no table")),
