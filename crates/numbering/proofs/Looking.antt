@@ -1,7 +1,6 @@
 -- The earliest match beside an index, and language systems that are there.
 use Rattle.std.proofs.Common.{◌≡◌, ℕ, zero, suc, ◌+◌, ◌<◌, ◌≤◌, Bool, true, false, cond, ◌&&◌, eqb, List, [], ◌∷◌, map, length, get_or, Some, None, Decides, Option, sym, refl, ap, ◌∙◌, ⊎_elim, arith}
 use Rattle.std.specs.List.{slice_get}
-use Rattle.std.specs.Map.{lookup}
 use Rattle.std.proofs.lemmas.List.{length-map}
 use Rattle.std.proofs.lemmas.Bool.{both_ways, eq-eqb, ne_eqb, eqb-true, cases_Bool, cond-true, cond-false, and_left}
 use Rattle.keys.specs.Slots.{Held}
@@ -13,27 +12,27 @@ use Rattle.source.specs.declared.parts.LangSys.{LangSys}
 use Rattle.source.specs.Standings.{mapped}
 use Rattle.source.specs.Reading.{LangSysTable}
 use Rattle.source.specs.Questions.{indices_of, lang_sys_head}
-use Rattle.numbering.specs.Sets.{Ascends, among, somes, equal_lists}
+use Rattle.numbering.specs.Sets.{Ascends, among, somes, equal_lists, lookup_beside}
 use Rattle.numbering.specs.Systems.{code_of, matches, like_default}
 use Rattle.numbering.proofs.Members.{among-decides, there-same, none-some}
 
 pub ascends-tail : (x : ℕ) (xs : List ℕ) → Ascends (x ∷ xs) → Ascends xs
 ascends-tail x xs up i j d h k = up (suc i) (suc j) d (omega arith) (omega arith)
 
-pub lookup-at : (ms es : List ℕ) (p x : ℕ) → Ascends ms → length ms ≡ length es → p < length ms → ((d : ℕ) → get_or ms p d ≡ x) → lookup eqb ms es x ≡ Some (get_or es p 0)
+pub lookup-at : (ms es : List ℕ) (p x : ℕ) → Ascends ms → length ms ≡ length es → p < length ms → ((d : ℕ) → get_or ms p d ≡ x) → lookup_beside eqb ms es x ≡ Some (get_or es p 0)
 lookup-at [] es p x up a h e = absurd (omega arith)
 lookup-at (m ∷ ms) [] p x up a h e = absurd (omega arith)
-lookup-at (m ∷ ms) (v ∷ vs) zero x up a h e = cond-true (eqb x m) (Some v) (lookup eqb ms vs x) (eq-eqb x m (sym (e 0)))
+lookup-at (m ∷ ms) (v ∷ vs) zero x up a h e = cond-true (eqb x m) (Some v) (lookup_beside eqb ms vs x) (eq-eqb x m (sym (e 0)))
 lookup-at (m ∷ ms) (v ∷ vs) (suc p) x up a h e =
     let low : m < get_or ms p 0 = up 0 (suc p) 0 (omega arith) h in
-    cond-false (eqb x m) (Some v) (lookup eqb ms vs x) (ne_eqb x m (λ s. omega (arith, low, s, e 0)))
+    cond-false (eqb x m) (Some v) (lookup_beside eqb ms vs x) (ne_eqb x m (λ s. omega (arith, low, s, e 0)))
     ∙ lookup-at ms vs p x (ascends-tail m ms up) (omega arith) (omega arith) e
 
-pub lookup-none : (ms es : List ℕ) (x : ℕ) → (Held (λ (a b : ℕ). a ≡ b) ms x → ⊥) → lookup eqb ms es x ≡ None
+pub lookup-none : (ms es : List ℕ) (x : ℕ) → (Held (λ (a b : ℕ). a ≡ b) ms x → ⊥) → lookup_beside eqb ms es x ≡ None
 lookup-none [] es x n = refl
 lookup-none (m ∷ ms) [] x n = refl
 lookup-none (m ∷ ms) (v ∷ vs) x n =
-    cond-false (eqb x m) (Some v) (lookup eqb ms vs x) (ne_eqb x m (λ s. n (0, (omega arith, λ d. sym s))))
+    cond-false (eqb x m) (Some v) (lookup_beside eqb ms vs x) (ne_eqb x m (λ s. n (0, (omega arith, λ d. sym s))))
     ∙ lookup-none ms vs x (λ r. n (suc r.0, (omega (arith, r.1.0), λ d. r.1.1 d)))
 
 pub system-there : (s : Standing LangSysTable) (l : LangSys) → There l ≡ mapped lang_sys_head s → (t : LangSysTable) × (s ≡ There t) × (l ≡ lang_sys_head t)

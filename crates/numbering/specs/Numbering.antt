@@ -9,9 +9,8 @@
 --   Laws            what holds of every numbering
 --   Numbers         a numbering is the defined one, and the laws hold of it
 --   Answered        a numbering, or the refusal where more than 2,048 pairs would be kept
---   NumberedOrNot the same for every input: sets that are none are turned away
+--   NumberedOrNot   the same for every input: sets that are none are turned away
 use Rattle.std.specs.Prelude.{◌≡◌, ℕ, ◌<◌, ◌≤◌, true, ◌&&◌, List, map, length, take, Option, Result, MatchResult, nat_eq}
-use Rattle.std.specs.Map.{lookup}
 use Rattle.keys.specs.Slots.{Ascending}
 use Rattle.keys.specs.Pairs.{PairBefore}
 use Rattle.keys.specs.Tags.{TagBefore}
@@ -25,7 +24,7 @@ use Rattle.numbering.specs.declared.pairs.Pairs.{Pairs}
 use Rattle.numbering.specs.declared.number.Numbering.{Numbering}
 use Rattle.numbering.specs.declared.number.Unnumbered.{Unnumbered}
 use Rattle.numbering.specs.declared.number.Unnumbered.TheVariants.{NotKeptSets, Refused}
-use Rattle.numbering.specs.Sets.{Ascends, among}
+use Rattle.numbering.specs.Sets.{Ascends, among, lookup_beside}
 use Rattle.numbering.specs.Stages.{survivors, matched, earliest, earliest_of, alike}
 use Rattle.numbering.specs.Systems.{Walk, walked, retained, is_named, code_of}
 use Rattle.numbering.specs.Numbers.{number, owners, Numbered}
@@ -51,7 +50,7 @@ abbrev pub first_alike : Reading → List ℕ → List ℕ → ℕ → ℕ
 first_alike r ls fs = earliest r ls (the_matched r ls fs)
 
 abbrev pub match_of : Reading → List ℕ → List ℕ → ℕ → Option ℕ
-match_of r ls fs = lookup nat_eq (the_matched r ls fs) (earliest_of r ls (survivors r ls fs))
+match_of r ls fs = lookup_beside nat_eq (the_matched r ls fs) (earliest_of r ls (survivors r ls fs))
 
 abbrev pub the_walk : Reading → List ℕ → List ℕ → List ℕ → Walk
 the_walk r ls fs ts = walked (match_of r ls fs) ts r

@@ -6,6 +6,7 @@
 --   if_among ls x  x, if it stands in ls
 --   place_by f o   f of a number that is there
 --   equal_lists    two lists have the same numbers in the same order
+--   lookup_beside  what stands beside the first key that equals one, in two lists
 --   Rises xs       each number of xs is before the next one
 --   Ascends xs     each number of xs is before every later one
 use Rattle.std.specs.Prelude.{ℕ, ◌+◌, ◌<◌, Bool, true, false, cond, ◌&&◌, ◌||◌, List, [], ◌∷◌, map, length, Some, None, Option, ◌==◌, slice_index}
@@ -47,3 +48,8 @@ place_by f (Some x) = f x
 
 abbrev pub if_among : List ℕ → ℕ → Option ℕ
 if_among ls x = cond (among ls x) (Some x) None
+
+abbrev pub lookup_beside : {K X : Type 0} → (K → K → Bool) → List K → List X → K → Option X
+lookup_beside eq [] xs k = None
+lookup_beside eq (j ∷ js) [] k = None
+lookup_beside eq (j ∷ js) (x ∷ xs) k = cond (eq k j) (Some x) (lookup_beside eq js xs k)

@@ -9,7 +9,7 @@ use source::{FeaturePlace, Source, Standing};
 
 // Whether the alternate of a substitution record cannot be read.
 fn unread_alternate<S: Source>(source: &S, at: u32, k: u16) -> bool
-    ensures { result ≡ is_unreadable (substitution_record (reading source.now) at k).alternate }
+    ensures { result ≡ is_unreadable (substitution_record (S.reading source.now) at k).alternate }
 {
     is_unreadable(source.feature(FeaturePlace::Alternate {
         variation: at,
@@ -19,7 +19,7 @@ fn unread_alternate<S: Source>(source: &S, at: u32, k: u16) -> bool
 
 // Whether a variation's substitution table, or an alternate of it, cannot be read.
 fn unread_substitution<S: Source>(source: &S, at: u32) -> bool
-    ensures { result ≡ unread_substitution (variation_record (reading source.now) at) }
+    ensures { result ≡ unread_substitution (variation_record (S.reading source.now) at) }
 {
     let count = match source.substitution(at) {
         Standing::Unreadable => return true,
@@ -37,7 +37,7 @@ fn unread_substitution<S: Source>(source: &S, at: u32) -> bool
 // Whether a substitution record gives a feature an alternate that names a kept lookup.
 fn names_alternate<S: Source>(source: &S, at: u32, k: u16, i: u16, lookups: &[u16]) -> bool
     requires { Ascends lookups.now }
-    ensures { result ≡ names_alternate lookups.now i (substitution_record (reading source.now) at k) }
+    ensures { result ≡ names_alternate lookups.now i (substitution_record (S.reading source.now) at k) }
 {
     let place = FeaturePlace::Alternate {
         variation: at,
@@ -52,7 +52,7 @@ fn names_alternate<S: Source>(source: &S, at: u32, k: u16, i: u16, lookups: &[u1
 // Whether a variation gives a feature an alternate that names a kept lookup.
 fn substitution_names<S: Source>(source: &S, at: u32, i: u16, lookups: &[u16]) -> bool
     requires { Ascends lookups.now }
-    ensures { result ≡ any (names_alternate lookups.now i) (substitution_records (variation_record (reading source.now) at).substitution) }
+    ensures { result ≡ any (names_alternate lookups.now i) (substitution_records (variation_record (S.reading source.now) at).substitution) }
 {
     let count = match source.substitution(at) {
         Standing::Unreadable => return false,
@@ -69,7 +69,7 @@ fn substitution_names<S: Source>(source: &S, at: u32, i: u16, lookups: &[u16]) -
 
 // Whether a substitution table or an alternate cannot be read, so that no alternate counts.
 pub(crate) fn alternates_unread<S: Source>(source: &S) -> bool
-    ensures { result ≡ alternates_unread (reading source.now) }
+    ensures { result ≡ alternates_unread (S.reading source.now) }
 {
     let count = match source.variations() {
         Standing::Unreadable => return false,
@@ -87,7 +87,7 @@ pub(crate) fn alternates_unread<S: Source>(source: &S) -> bool
 // Whether some alternate of a feature names a kept lookup.
 pub(crate) fn alternate_kept<S: Source>(source: &S, i: u16, lookups: &[u16]) -> bool
     requires { Ascends lookups.now }
-    ensures { result ≡ alternate_kept (reading source.now) lookups.now i }
+    ensures { result ≡ alternate_kept (S.reading source.now) lookups.now i }
 {
     let count = match source.variations() {
         Standing::Unreadable => return false,

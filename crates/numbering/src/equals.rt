@@ -1,10 +1,10 @@
 // Language systems that are equal: the same required index, and the same earliest matches in order.
 ghost use Rattle.std.specs.Prelude.{◌≡◌, map, nat_eq};
-ghost use Rattle.std.specs.Map.{lookup};
 ghost use Rattle.source.specs.declared.parts.LangSysPlace.TheVariants.{Default, Record};
 ghost use Rattle.source.specs.Questions.{lang_sys_of, indices_of};
 ghost use Rattle.numbering.specs.Systems.{like_default};
 ghost use Rattle.numbering.specs.Context.{Paired};
+ghost use Rattle.numbering.specs.Sets.{lookup_beside};
 
 use crate::sequence::{Sequence, same_numbers};
 use keys::find;
@@ -13,7 +13,7 @@ use source::{LangSysPlace, Source, Standing};
 // The earliest match of an index, if it has one.
 fn match_of(matched: &[u16], earliest: &[u16], index: u16) -> Option<u16>
     requires { Paired matched.now earliest.now }
-    ensures { result ≡ lookup nat_eq matched.now earliest.now index }
+    ensures { result ≡ lookup_beside nat_eq matched.now earliest.now index }
 {
     match find(matched, index) {
         Ok(p) => Some(earliest[p]),
@@ -31,7 +31,7 @@ pub(crate) struct MatchedIndices<'a, 'b, 'c, S> {
 }
 
 impl<'a, 'b, 'c, S: Source> Sequence for MatchedIndices<'a, 'b, 'c, S> {
-    ghost places = { λ q. map (lookup nat_eq q.matched.now q.earliest.now) (indices_of (lang_sys_of (S.Source.reading q.source.now) q.at)) };
+    ghost places = { λ q. map (lookup_beside nat_eq q.matched.now q.earliest.now) (indices_of (lang_sys_of (S.Source.reading q.source.now) q.at)) };
 
     ghost ready = { λ q. Paired q.matched.now q.earliest.now };
 
@@ -59,7 +59,7 @@ pub(crate) fn is_like_default<S: Source>(
     lang_sys: u16,
 ) -> bool
     requires { Paired matched.now earliest.now }
-    ensures { result ≡ like_default (lookup nat_eq matched.now earliest.now) (lang_sys_of (reading source.now) (Record script lang_sys)) (lang_sys_of (reading source.now) (Default script)) }
+    ensures { result ≡ like_default (lookup_beside nat_eq matched.now earliest.now) (lang_sys_of (S.reading source.now) (Record script lang_sys)) (lang_sys_of (S.reading source.now) (Default script)) }
 {
     let record = LangSysPlace::Record { script, lang_sys };
     let default = LangSysPlace::Default { script };

@@ -23,7 +23,7 @@ pub fn join_features<S: Source>(
     survivors: &mut [u16],
     earliest: &mut [u16],
 ) -> Option<Joins>
-    ensures { MatchOption result (Joinable lookups.now features.now survivors.old earliest.old → ⊥) (Joined (reading source.now) lookups.now features.now survivors.new earliest.new) }
+    ensures { MatchOption result (Joinable lookups.now features.now survivors.old earliest.old → ⊥) (Joined (S.reading source.now) lookups.now features.now survivors.new earliest.new) }
 {
     if !is_ascending(lookups) {
         return None;

@@ -42,7 +42,7 @@ impl<'a, 'b, S: Source> Sequence for KeptLookups<'a, 'b, S> {
 // Whether two listed features have equal tags and equal kept lookups.
 fn is_alike<S: Source>(source: &S, lookups: &[u16], j: u16, i: u16) -> bool
     requires { Ascends lookups.now }
-    ensures { result ≡ alike (reading source.now) lookups.now j i }
+    ensures { result ≡ alike (S.reading source.now) lookups.now j i }
 {
     if source.feature_tag(j).code != source.feature_tag(i).code {
         return false;
@@ -63,7 +63,7 @@ fn is_alike<S: Source>(source: &S, lookups: &[u16], j: u16, i: u16) -> bool
 // The bucket of a listed feature, by its tag and its kept lookups.
 fn bucket_of<S: Source>(source: &S, lookups: &[u16], index: u16) -> usize
     requires { Ascends lookups.now }
-    ensures value { result ≡ bucket_in (reading source.now) lookups.now index }
+    ensures value { result ≡ bucket_in (S.reading source.now) lookups.now index }
     ensures below { result < 239 }
 {
     let q = KeptLookups {
@@ -88,10 +88,10 @@ fn earliest_match<S: Source>(
 ) -> u16
     requires lookups { Ascends lookups.now }
     requires place { (v < length survivors.now) × ((v < 512) × (v ≤ length known.now)) }
-    requires chains { Chained chains.now (λ p. bucket_in (reading source.now) lookups.now (slice_index survivors.now p)) v }
-    requires bucket { (bucket ≡ bucket_in (reading source.now) lookups.now (slice_index survivors.now v)) × (bucket < 239) }
-    requires known { (k : ℕ) → k < v → slice_index known.now k ≡ earliest (reading source.now) lookups.now (take k survivors.now) (slice_index survivors.now k) }
-    ensures { result ≡ earliest (reading source.now) lookups.now (take v survivors.now) (slice_index survivors.now v) }
+    requires chains { Chained chains.now (λ p. bucket_in (S.reading source.now) lookups.now (slice_index survivors.now p)) v }
+    requires bucket { (bucket ≡ bucket_in (S.reading source.now) lookups.now (slice_index survivors.now v)) × (bucket < 239) }
+    requires known { (k : ℕ) → k < v → slice_index known.now k ≡ earliest (S.reading source.now) lookups.now (take k survivors.now) (slice_index survivors.now k) }
+    ensures { result ≡ earliest (S.reading source.now) lookups.now (take v survivors.now) (slice_index survivors.now v) }
 {
     let i = survivors[v];
     let mut at = chains.heads[bucket] as usize;
@@ -116,8 +116,8 @@ pub(crate) fn find_duplicate_features<S: Source>(
     requires ascends { (Ascends lookups.now) × (length survivors.now ≤ length out.old) }
     requires few { length survivors.now ≤ 512 }
     ensures count { result ≤ length survivors.now }
-    ensures front { take result survivors.now ≡ matched (reading source.now) survivors.now }
-    ensures list { take result out.new ≡ earliest_of (reading source.now) lookups.now survivors.now }
+    ensures front { take result survivors.now ≡ matched (S.reading source.now) survivors.now }
+    ensures list { take result out.new ≡ earliest_of (S.reading source.now) lookups.now survivors.now }
 {
     let mut chains = Chains::new();
     for v in 0..survivors.len() {
@@ -135,7 +135,7 @@ pub(crate) fn find_duplicate_features<S: Source>(
 // The first of some features that is alike, or the feature itself.
 fn first_alike<S: Source>(source: &S, lookups: &[u16], seen: &[u16], i: u16) -> u16
     requires { Ascends lookups.now }
-    ensures { result ≡ earliest (reading source.now) lookups.now seen.now i }
+    ensures { result ≡ earliest (S.reading source.now) lookups.now seen.now i }
 {
     for k in 0..seen.len() {
         let j = seen[k];
@@ -156,8 +156,8 @@ pub(crate) fn find_duplicates_by_scan<S: Source>(
 ) -> usize
     requires { (Ascends lookups.now) × (length survivors.now ≤ length out.old) }
     ensures count { result ≤ length survivors.now }
-    ensures front { take result survivors.now ≡ matched (reading source.now) survivors.now }
-    ensures list { take result out.new ≡ earliest_of (reading source.now) lookups.now survivors.now }
+    ensures front { take result survivors.now ≡ matched (S.reading source.now) survivors.now }
+    ensures list { take result out.new ≡ earliest_of (S.reading source.now) lookups.now survivors.now }
 {
     for v in 0..survivors.len() {
         let i = survivors[v];

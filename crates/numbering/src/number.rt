@@ -41,7 +41,7 @@ fn number_sets<S: Source>(
     scripts: &[Tag],
 ) -> Result<Numbering, Refusal>
     requires { Kept lookups.now features.now scripts.now }
-    ensures { Answered (reading source.now) lookups.now features.now (map code_of scripts.now) result }
+    ensures { Answered (S.reading source.now) lookups.now features.now (map code_of scripts.now) result }
 {
     let mut survivors = [0; 512];
     let mut earliest = [0; 512];
@@ -93,7 +93,7 @@ pub fn number_features<S: Source>(
     features: &[u16],
     scripts: &[Tag],
 ) -> Result<Numbering, Unnumbered>
-    ensures { NumberedOrNot (reading source.now) lookups.now features.now scripts.now result }
+    ensures { NumberedOrNot (S.reading source.now) lookups.now features.now scripts.now result }
 {
     if !are_kept_sets(lookups, features, scripts) {
         return Err(Unnumbered::NotKeptSets);

@@ -13,15 +13,15 @@ use source::{LangSysPlace, Source, Standing};
 // Whether the tag of a script is kept.
 pub(crate) fn is_kept_script<S: Source>(source: &S, tags: &[Tag], at: u16) -> bool
     requires { Ascending TagBefore tags.now }
-    ensures { result ≡ among (map code_of tags.now) (script_record (reading source.now) at).tag }
+    ensures { result ≡ among (map code_of tags.now) (script_record (S.reading source.now) at).tag }
 {
     contains(tags, source.script_tag(at))
 }
 
 // Whether a script has neither a default nor a record.
 pub(crate) fn is_empty_script<S: Source>(source: &S, at: u16, count: u16) -> bool
-    requires { count ≡ length (lang_sys_records (script (reading source.now) at)) }
-    ensures { result ≡ is_empty (lang_sys_records (script (reading source.now) at)) (lang_sys_of (reading source.now) (Default at)) }
+    requires { count ≡ length (lang_sys_records (script (S.reading source.now) at)) }
+    ensures { result ≡ is_empty (lang_sys_records (script (S.reading source.now) at)) (lang_sys_of (S.reading source.now) (Default at)) }
 {
     match source.lang_sys(LangSysPlace::Default { script: at }) {
         Standing::Absent => count == 0,

@@ -23,8 +23,8 @@ pub(crate) trait Sequence {
 
 // The next number from a place on, with the place after it.
 fn next_from<Q: Sequence>(q: &Q, from: u16) -> Option<(u16, u16)>
-    requires { ready q.now }
-    ensures { MatchOption result (somes (drop from (places q.now)) ≡ []) (λ p. somes (drop from (places q.now)) ≡ p.0 ∷ somes (drop p.1 (places q.now))) }
+    requires { Q.ready q.now }
+    ensures { MatchOption result (somes (drop from (Q.places q.now)) ≡ []) (λ p. somes (drop from (Q.places q.now)) ≡ p.0 ∷ somes (drop p.1 (Q.places q.now))) }
 {
     let end = q.count();
     for k in from..end {
@@ -37,8 +37,8 @@ fn next_from<Q: Sequence>(q: &Q, from: u16) -> Option<(u16, u16)>
 
 // Whether two sequences give the same numbers in the same order.
 pub(crate) fn same_numbers<Q: Sequence>(a: &Q, b: &Q) -> bool
-    requires { (ready a.now) × (ready b.now) }
-    ensures { result ≡ equal_lists (somes (places a.now)) (somes (places b.now)) }
+    requires { (Q.ready a.now) × (Q.ready b.now) }
+    ensures { result ≡ equal_lists (somes (Q.places a.now)) (somes (Q.places b.now)) }
 {
     let mut j = 0;
     for i in 0..a.count() {
@@ -60,8 +60,8 @@ pub(crate) fn same_numbers<Q: Sequence>(a: &Q, b: &Q) -> bool
 
 // The numbers of a sequence, mixed into one.
 pub(crate) fn mix_numbers<Q: Sequence>(q: &Q, start: u32) -> u32
-    requires { (ready q.now) × (start < 65521) }
-    ensures { result ≡ mixed start (somes (places q.now)) }
+    requires { (Q.ready q.now) × (start < 65521) }
+    ensures { result ≡ mixed start (somes (Q.places q.now)) }
 {
     let mut h = start;
     for k in 0..q.count() {

@@ -49,7 +49,7 @@ pub(crate) fn is_unreadable(s: Standing<u16>) -> bool
 // Whether a feature has a kept lookup at a place.
 fn names_kept_at<S: Source>(source: &S, at: FeaturePlace, k: u16, lookups: &[u16]) -> bool
     requires { Ascends lookups.now }
-    ensures { result ≡ passes (among lookups.now) (slice_get (lookups_of (feature (reading source.now) at)) k) }
+    ensures { result ≡ passes (among lookups.now) (slice_get (lookups_of (feature (S.reading source.now) at)) k) }
 {
     match source.lookup(at, k) {
         Some(lookup) => is_kept(lookups, lookup),
@@ -64,7 +64,7 @@ pub(crate) fn feature_intersects_lookups<S: Source>(
     lookups: &[u16],
 ) -> bool
     requires { Ascends lookups.now }
-    ensures { result ≡ any (among lookups.now) (lookups_of (feature (reading source.now) at)) }
+    ensures { result ≡ any (among lookups.now) (lookups_of (feature (S.reading source.now) at)) }
 {
     let count = source.feature(at).count();
     for k in 0..count {

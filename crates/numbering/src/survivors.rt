@@ -15,7 +15,7 @@ const SIZE: u32 = 0x7369_7a65;
 
 // Whether a listed feature has no parameters.
 fn has_no_params<S: Source>(source: &S, i: u16) -> bool
-    ensures { result ≡ is_absent (params_of (feature (reading source.now) (Listed i))) }
+    ensures { result ≡ is_absent (params_of (feature (S.reading source.now) (Listed i))) }
 {
     match source.params(FeaturePlace::Listed { feature: i }) {
         Standing::Absent => true,
@@ -26,15 +26,15 @@ fn has_no_params<S: Source>(source: &S, i: u16) -> bool
 
 // Whether a feature is `size` with parameters.
 fn is_sized<S: Source>(source: &S, i: u16) -> bool
-    ensures { result ≡ sized (reading source.now) i }
+    ensures { result ≡ sized (S.reading source.now) i }
 {
     source.feature_tag(i).code == SIZE && !has_no_params(source, i)
 }
 
 // Whether a feature that can be read survives.
 fn is_wanted<S: Source>(source: &S, unread: bool, lookups: &[u16], i: u16) -> bool
-    requires { (Ascends lookups.now) × (unread ≡ alternates_unread (reading source.now)) }
-    ensures { result ≡ wanted (reading source.now) lookups.now i }
+    requires { (Ascends lookups.now) × (unread ≡ alternates_unread (S.reading source.now)) }
+    ensures { result ≡ wanted (S.reading source.now) lookups.now i }
 {
     is_sized(source, i)
         || feature_intersects_lookups(source, FeaturePlace::Listed { feature: i }, lookups)
@@ -43,8 +43,8 @@ fn is_wanted<S: Source>(source: &S, unread: bool, lookups: &[u16], i: u16) -> bo
 
 // Whether a kept feature survives. One that is absent does not, and `pref` does unread.
 fn judge<S: Source>(source: &S, unread: bool, lookups: &[u16], i: u16) -> Standing<bool>
-    requires { (Ascends lookups.now) × (unread ≡ alternates_unread (reading source.now)) }
-    ensures { result ≡ judged (reading source.now) lookups.now i }
+    requires { (Ascends lookups.now) × (unread ≡ alternates_unread (S.reading source.now)) }
+    ensures { result ≡ judged (S.reading source.now) lookups.now i }
 {
     let is_pref = source.feature_tag(i).code == PREF;
     match source.feature(FeaturePlace::Listed { feature: i }) {
@@ -70,7 +70,7 @@ pub(crate) fn prune_features<S: Source>(
 ) -> usize
     requires { (Ascends lookups.now) × (length features.now ≤ length out.old) }
     ensures count { result ≤ length features.now }
-    ensures list { take result out.new ≡ survivors (reading source.now) lookups.now features.now }
+    ensures list { take result out.new ≡ survivors (S.reading source.now) lookups.now features.now }
 {
     let unread = alternates_unread(source);
     let mut n = 0;

@@ -1,6 +1,5 @@
 // The language systems that are collected, and the pairs that are kept.
 ghost use Rattle.std.specs.Prelude.{◌≡◌, ℕ, ◌<◌, ◌≤◌, ltb, List, map, length, take, if◌then◌else◌, MatchResult, nat_eq, nat_lt};
-ghost use Rattle.std.specs.Map.{lookup};
 ghost use Rattle.keys.specs.Slots.{Ascending};
 ghost use Rattle.keys.specs.Tags.{TagBefore};
 ghost use Rattle.source.specs.declared.parts.Standing.TheVariants.{There};
@@ -8,7 +7,7 @@ ghost use Rattle.source.specs.declared.parts.LangSysPlace.TheVariants.{Default, 
 ghost use Rattle.source.specs.declared.refusals.Refusal.TheVariants.{TooManyPairs};
 ghost use Rattle.source.specs.Questions.{script, script_record, lang_sys_of, lang_sys_records, lang_sys_head, indices_of};
 ghost use Rattle.source.specs.Standings.{mapped, listed};
-ghost use Rattle.numbering.specs.Sets.{Ascends, among};
+ghost use Rattle.numbering.specs.Sets.{Ascends, among, lookup_beside};
 ghost use Rattle.numbering.specs.Systems.{Walk, no_walk, names_of, code_of, walk_records, walk_scripts, counted_script, script_step, record_step, visit_default};
 ghost use Rattle.numbering.specs.Context.{Paired, Agrees, Marked, counted, visited, with_pair, Walks, Goes, Pruned, chosen};
 
@@ -89,8 +88,8 @@ impl PruneLangSysContext {
         count: u16,
     )
         requires ascends { (Ascends matched.now) × (length matched.now ≤ 512) }
-        requires count { count ≡ length (indices_of (lang_sys_of (reading source.now) at)) }
-        ensures { Marked matched.now (among (indices_of (lang_sys_of (reading source.now) at))) self.old self.new }
+        requires count { count ≡ length (indices_of (lang_sys_of (S.reading source.now) at)) }
+        ensures { Marked matched.now (among (indices_of (lang_sys_of (S.reading source.now) at))) self.old self.new }
     {
         for k in 0..count {
             if let Some(index) = source.feature_index(at, k) {
@@ -108,8 +107,8 @@ impl PruneLangSysContext {
         langsys: LangSys,
     )
         requires ascends { (Ascends matched.now) × (length matched.now ≤ 512) }
-        requires system { There langsys ≡ mapped lang_sys_head (lang_sys_of (reading source.now) at) }
-        ensures { Marked matched.now (among (names_of (lang_sys_of (reading source.now) at))) self.old self.new }
+        requires system { There langsys ≡ mapped lang_sys_head (lang_sys_of (S.reading source.now) at) }
+        ensures { Marked matched.now (among (names_of (lang_sys_of (S.reading source.now) at))) self.old self.new }
     {
         if langsys.required != 0xffff {
             self.retain(matched, langsys.required);
@@ -139,7 +138,7 @@ impl PruneLangSysContext {
         lang_sys: u16,
     ) -> Result<bool, Refusal>
         requires { Paired matched.now earliest.now }
-        ensures { (w : Walk) → Agrees matched.now self.old w → Goes matched.now (record_step (lookup nat_eq matched.now earliest.now) (lang_sys_of (reading source.now) (Default script)) (record { script = script; lang_sys = lang_sys }) (lang_sys_of (reading source.now) (Record script lang_sys)) w) self.new result }
+        ensures { (w : Walk) → Agrees matched.now self.old w → Goes matched.now (record_step (lookup_beside nat_eq matched.now earliest.now) (lang_sys_of (S.reading source.now) (Default script)) (record { script = script; lang_sys = lang_sys }) (lang_sys_of (S.reading source.now) (Record script lang_sys)) w) self.new result }
     {
         let at = LangSysPlace::Record { script, lang_sys };
         let langsys = match source.lang_sys(at) {
@@ -167,8 +166,8 @@ impl PruneLangSysContext {
         count: u16,
     ) -> Result<(), Refusal>
         requires paired { Paired matched.now earliest.now }
-        requires count { count ≡ length (lang_sys_records (script (reading source.now) at)) }
-        ensures { (w : Walk) → Agrees matched.now self.old w → Walks matched.now (walk_records (lookup nat_eq matched.now earliest.now) (lang_sys_of (reading source.now) (Default at)) at 0 (lang_sys_records (script (reading source.now) at)) w) self.new result }
+        requires count { count ≡ length (lang_sys_records (script (S.reading source.now) at)) }
+        ensures { (w : Walk) → Agrees matched.now self.old w → Walks matched.now (walk_records (lookup_beside nat_eq matched.now earliest.now) (lang_sys_of (S.reading source.now) (Default at)) at 0 (lang_sys_records (script (S.reading source.now) at)) w) self.new result }
     {
         for k in 0..count {
             if !self.prune_record(source, matched, earliest, at, k)? {
@@ -181,7 +180,7 @@ impl PruneLangSysContext {
     // Visits the default language system of a script.
     fn prune_default<S: Source>(&mut self, source: &S, matched: &[u16], script: u16)
         requires { (Ascends matched.now) × (length matched.now ≤ 512) }
-        ensures { (w : Walk) → Agrees matched.now self.old w → Agrees matched.now self.new (visit_default (lang_sys_of (reading source.now) (Default script)) w) }
+        ensures { (w : Walk) → Agrees matched.now self.old w → Agrees matched.now self.new (visit_default (lang_sys_of (S.reading source.now) (Default script)) w) }
     {
         let at = LangSysPlace::Default { script };
         if let Standing::There(langsys) = source.lang_sys(at) {
@@ -201,8 +200,8 @@ impl PruneLangSysContext {
         count: u16,
     ) -> Result<(), Refusal>
         requires paired { Paired matched.now earliest.now }
-        requires count { count ≡ length (lang_sys_records (script (reading source.now) at)) }
-        ensures { (w : Walk) → Agrees matched.now self.old w → Walks matched.now (counted_script (lookup nat_eq matched.now earliest.now) at (lang_sys_of (reading source.now) (Default at)) (lang_sys_records (script (reading source.now) at)) w) self.new result }
+        requires count { count ≡ length (lang_sys_records (script (S.reading source.now) at)) }
+        ensures { (w : Walk) → Agrees matched.now self.old w → Walks matched.now (counted_script (lookup_beside nat_eq matched.now earliest.now) at (lang_sys_of (S.reading source.now) (Default at)) (lang_sys_records (script (S.reading source.now) at)) w) self.new result }
     {
         if is_empty_script(source, at, count) || !self.visit_script() {
             return Ok(());
@@ -222,7 +221,7 @@ impl PruneLangSysContext {
     ) -> Result<bool, Refusal>
         requires paired { Paired matched.now earliest.now }
         requires tags { Ascending TagBefore tags.now }
-        ensures { (w : Walk) → Agrees matched.now self.old w → Goes matched.now (script_step (lookup nat_eq matched.now earliest.now) (map code_of tags.now) script (script_record (reading source.now) script) w) self.new result }
+        ensures { (w : Walk) → Agrees matched.now self.old w → Goes matched.now (script_step (lookup_beside nat_eq matched.now earliest.now) (map code_of tags.now) script (script_record (S.reading source.now) script) w) self.new result }
     {
         if !is_kept_script(source, tags, script) {
             return Ok(true);
@@ -247,7 +246,7 @@ impl PruneLangSysContext {
     ) -> Result<(), Refusal>
         requires paired { Paired matched.now earliest.now }
         requires tags { Ascending TagBefore tags.now }
-        ensures { (w : Walk) → Agrees matched.now self.old w → Walks matched.now (walk_scripts (lookup nat_eq matched.now earliest.now) (map code_of tags.now) 0 (listed (reading source.now).scripts) w) self.new result }
+        ensures { (w : Walk) → Agrees matched.now self.old w → Walks matched.now (walk_scripts (lookup_beside nat_eq matched.now earliest.now) (map code_of tags.now) 0 (listed (S.reading source.now).scripts) w) self.new result }
     {
         let count = source.script_list().count();
         for script in 0..count {
@@ -286,7 +285,7 @@ impl PruneLangSysContext {
     ) -> Result<(usize, usize), Refusal>
         requires paired { (Paired matched.now earliest.now) × (length matched.now ≤ length out.old) }
         requires tags { Ascending TagBefore tags.now }
-        ensures { (w : Walk) → Agrees matched.now self.old w → Pruned matched.now (walk_scripts (lookup nat_eq matched.now earliest.now) (map code_of tags.now) 0 (listed (reading source.now).scripts) w) self.new out.new result }
+        ensures { (w : Walk) → Agrees matched.now self.old w → Pruned matched.now (walk_scripts (lookup_beside nat_eq matched.now earliest.now) (map code_of tags.now) 0 (listed (S.reading source.now).scripts) w) self.new out.new result }
     {
         self.prune_scripts(source, tags, matched, earliest)?;
         let retained = self.choose(matched, out);

@@ -1,12 +1,11 @@
 use Rattle.std.proofs.Common.{◌≡◌, ◌-◌, ◌<◌, ◌≤◌, eqb, map, length, take, sym, ap, ◌∙◌, subst, arith}
-use Rattle.std.specs.Map.{lookup}
 use Rattle.std.proofs.lemmas.Result.{err_from_is_err_and}
 use Rattle.source.specs.Standings.{listed}
 use Rattle.numbering.specs.Systems.{code_of, no_walk, walk_scripts, retained}
 use Rattle.numbering.specs.Context.{Paired, Agrees}
 use Rattle.numbering.specs.Context.{Walked, chosen}
 use Rattle.numbering.specs.Numbers.{Settled, number, owners}
-use Rattle.numbering.specs.Sets.{Ascends}
+use Rattle.numbering.specs.Sets.{Ascends, lookup_beside}
 use Rattle.numbering.specs.Numbering.{first_alike, the_matched, the_walk, the_retained}
 use Rattle.std.proofs.lemmas.List.{length-map}
 use Rattle.numbering.proofs.Walking.{pairs-kept}
@@ -46,7 +45,7 @@ returns-in-err-paired g c =
     let full = c.in-err-paired.ensures no_walk start in
     let p = err_from_is_err_and c.from-residual.result c.from-residual.ensures.1 in
     rw (p.1, p.2)
-    (full.0, settle r ls fs A B j mm ee (λ ms es. 2048 < length (walk_scripts (lookup eqb ms es) ts 0 (listed r.scripts) no_walk).pairs) full.1)
+    (full.0, settle r ls fs A B j mm ee (λ ms es. 2048 < length (walk_scripts (lookup_beside eqb ms es) ts 0 (listed r.scripts) no_walk).pairs) full.1)
 
 pub slice-bounds-remap-feature-indices-end : goal.slice-bounds-remap-feature-indices-end
 slice-bounds-remap-feature-indices-end g c =
@@ -66,7 +65,7 @@ slice-bounds-remap-feature-indices-end g c =
     let self = c.prune-langsys.new.self in
     let out = c.prune-langsys.new.out in
     let count = c.in-ok-paired.count in
-    let walked = settle r ls fs A B j mm ee (λ ms es. Walked ms (walk_scripts (lookup eqb ms es) ts 0 (listed r.scripts) no_walk) self out c.in-ok-paired.paired count) (c.in-ok-paired.ensures no_walk start) in
+    let walked = settle r ls fs A B j mm ee (λ ms es. Walked ms (walk_scripts (lookup_beside eqb ms es) ts 0 (listed r.scripts) no_walk) self out c.in-ok-paired.paired count) (c.in-ok-paired.ensures no_walk start) in
     omega (arith, walked.2, retained-few r ls fs c.requires.features c.requires.few_features ts, c.prune-langsys.auto.out)
 
 pub remap-feature-indices-own-requires : goal.remap-feature-indices-own-requires
@@ -87,7 +86,7 @@ remap-feature-indices-own-requires g c =
     let self = c.prune-langsys.new.self in
     let out = c.prune-langsys.new.out in
     let count = c.in-ok-paired.count in
-    let walked = settle r ls fs A B j mm ee (λ ms es. Walked ms (walk_scripts (lookup eqb ms es) ts 0 (listed r.scripts) no_walk) self out c.in-ok-paired.paired count) (c.in-ok-paired.ensures no_walk start) in
+    let walked = settle r ls fs A B j mm ee (λ ms es. Walked ms (walk_scripts (lookup_beside eqb ms es) ts 0 (listed r.scripts) no_walk) self out c.in-ok-paired.paired count) (c.in-ok-paired.ensures no_walk start) in
     let rest : c.in-ok-paired.count - 0 ≡ c.in-ok-paired.count = omega arith in
     let same = ap (λ n. take n out) rest ∙ walked.3 in
     let size = ap length same in
@@ -111,7 +110,7 @@ invariant-of-result-3 g c =
     let self = c.prune-langsys.new.self in
     let out = c.prune-langsys.new.out in
     let count = c.in-ok-paired.count in
-    let walked = settle r ls fs A B j mm ee (λ ms es. Walked ms (walk_scripts (lookup eqb ms es) ts 0 (listed r.scripts) no_walk) self out c.in-ok-paired.paired count) (c.in-ok-paired.ensures no_walk start) in
+    let walked = settle r ls fs A B j mm ee (λ ms es. Walked ms (walk_scripts (lookup_beside eqb ms es) ts 0 (listed r.scripts) no_walk) self out c.in-ok-paired.paired count) (c.in-ok-paired.ensures no_walk start) in
     (omega (arith, walked.2, retained-few r ls fs c.requires.features c.requires.few_features ts), tt)
 
 pub invariant-of-result-5 : goal.invariant-of-result-5
@@ -132,7 +131,7 @@ invariant-of-result-5 g c =
     let self = c.prune-langsys.new.self in
     let out = c.prune-langsys.new.out in
     let count = c.in-ok-paired.count in
-    let walked = settle r ls fs A B j mm ee (λ ms es. Walked ms (walk_scripts (lookup eqb ms es) ts 0 (listed r.scripts) no_walk) self out c.in-ok-paired.paired count) (c.in-ok-paired.ensures no_walk start) in
+    let walked = settle r ls fs A B j mm ee (λ ms es. Walked ms (walk_scripts (lookup_beside eqb ms es) ts 0 (listed r.scripts) no_walk) self out c.in-ok-paired.paired count) (c.in-ok-paired.ensures no_walk start) in
     (omega (arith, walked.1, pairs-kept walked.0, walked.0.filled), tt)
 
 pub returns : goal.returns
@@ -153,7 +152,7 @@ returns g c =
     let self = c.prune-langsys.new.self in
     let out = c.prune-langsys.new.out in
     let count = c.in-ok-paired.count in
-    let walked = settle r ls fs A B j mm ee (λ ms es. Walked ms (walk_scripts (lookup eqb ms es) ts 0 (listed r.scripts) no_walk) self out c.in-ok-paired.paired count) (c.in-ok-paired.ensures no_walk start) in
+    let walked = settle r ls fs A B j mm ee (λ ms es. Walked ms (walk_scripts (lookup_beside eqb ms es) ts 0 (listed r.scripts) no_walk) self out c.in-ok-paired.paired count) (c.in-ok-paired.ensures no_walk start) in
     let rs = the_retained r ls fs ts in
     let f = first_alike r ls fs in
     let whole : c.find-duplicate-features-matched.result - 0 ≡ c.find-duplicate-features-matched.result = omega arith in

@@ -1,11 +1,11 @@
 use Rattle.std.proofs.Common.{eqb, map, length, ap, ◌∙◌}
-use Rattle.std.specs.Map.{lookup}
 use Rattle.std.proofs.lemmas.Result.{err_from_is_err_and}
 use Rattle.source.specs.Standings.{listed}
 use Rattle.numbering.specs.Systems.{code_of, walk_scripts}
 use Rattle.numbering.proofs.Walking.{pairs-kept}
 use Rattle.numbering.proofs.Whole.{chosen-retained}
 use Rattle.numbering.proofs.systems.PruneLangSysContext.prune_langsys.Goals as goal
+use Rattle.numbering.specs.Sets.{lookup_beside}
 
 pub returns-in-err-prune-scripts : goal.returns-in-err-prune-scripts
 returns-in-err-prune-scripts g c =
@@ -17,5 +17,5 @@ returns g c =
     let ms = c.args.matched.now in
     λ w a.
     let agrees = c.in-ok-prune-scripts.ensures w a in
-    let kept = chosen-retained ms c.prune-scripts.new.self (walk_scripts (lookup eqb ms c.args.earliest.now) (map code_of c.args.tags.now) 0 (listed r.scripts) w) agrees in
+    let kept = chosen-retained ms c.prune-scripts.new.self (walk_scripts (lookup_beside eqb ms c.args.earliest.now) (map code_of c.args.tags.now) 0 (listed r.scripts) w) agrees in
     (agrees, pairs-kept agrees, c.choose-retained.ensures.count ∙ ap length kept, c.choose-retained.ensures.list ∙ kept)

@@ -1,5 +1,4 @@
 use Rattle.std.proofs.Common.{◌+◌, eqb, length, get_or, drop, sym, ◌∙◌, subst, arith}
-use Rattle.std.specs.Map.{lookup}
 use Rattle.std.proofs.lemmas.List.{at_drop_all}
 use Rattle.std.proofs.lemmas.Result.{err_from_is_err_and}
 use Rattle.source.specs.declared.parts.LangSysPlace.TheVariants.{Default}
@@ -8,11 +7,12 @@ use Rattle.numbering.specs.Systems.{Walk, record_step, walk_records}
 use Rattle.numbering.specs.Context.{Agrees}
 use Rattle.numbering.proofs.Walking.{records-at, records-more, step-ends, step-goes, step-full}
 use Rattle.numbering.proofs.systems.PruneLangSysContext.prune_records.Goals as goal
+use Rattle.numbering.specs.Sets.{lookup_beside}
 
 pub returns-in-err-prune-record : goal.returns-in-err-prune-record
 returns-in-err-prune-record g c =
     let r = g.S.Source.reading c.args.source.now in
-    let m = lookup eqb c.args.matched.now c.args.earliest.now in
+    let m = lookup_beside eqb c.args.matched.now c.args.earliest.now in
     let d = lang_sys_of r (Default c.args.at) in
     let xs = lang_sys_records (script r c.args.at) in
     let k = c.loop-k.k in
@@ -28,7 +28,7 @@ returns-in-err-prune-record g c =
 pub returns-then-not-branch : goal.returns-then-not-branch
 returns-then-not-branch g c =
     let r = g.S.Source.reading c.args.source.now in
-    let m = lookup eqb c.args.matched.now c.args.earliest.now in
+    let m = lookup_beside eqb c.args.matched.now c.args.earliest.now in
     let d = lang_sys_of r (Default c.args.at) in
     let xs = lang_sys_records (script r c.args.at) in
     let k = c.loop-k.k in
@@ -42,7 +42,7 @@ returns-then-not-branch g c =
 pub loop-k-preserved : goal.loop-k-preserved
 loop-k-preserved g c =
     let r = g.S.Source.reading c.args.source.now in
-    let m = lookup eqb c.args.matched.now c.args.earliest.now in
+    let m = lookup_beside eqb c.args.matched.now c.args.earliest.now in
     let d = lang_sys_of r (Default c.args.at) in
     let xs = lang_sys_records (script r c.args.at) in
     let k = c.loop-k.k in
@@ -55,7 +55,7 @@ loop-k-preserved g c =
 pub returns : goal.returns
 returns g c =
     let r = g.S.Source.reading c.args.source.now in
-    let m = lookup eqb c.args.matched.now c.args.earliest.now in
+    let m = lookup_beside eqb c.args.matched.now c.args.earliest.now in
     let xs = lang_sys_records (script r c.args.at) in
     λ v a.
     let i = c.loop-k.invariant v a in

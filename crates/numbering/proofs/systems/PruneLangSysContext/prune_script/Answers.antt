@@ -1,11 +1,11 @@
 use Rattle.std.proofs.Common.{true, eqb, map, Ok, Err, sym, refl, ◌∙◌, subst}
-use Rattle.std.specs.Map.{lookup}
 use Rattle.std.proofs.lemmas.Result.{err_from_is_err_and}
 use Rattle.source.specs.Questions.{script_record}
 use Rattle.numbering.specs.Systems.{code_of}
 use Rattle.numbering.specs.Context.{Goes}
 use Rattle.numbering.proofs.Walking.{kept_there}
 use Rattle.numbering.proofs.systems.PruneLangSysContext.prune_script.Goals as goal
+use Rattle.numbering.specs.Sets.{lookup_beside}
 
 pub returns-in-err-prune-script-langsys : goal.returns-in-err-prune-script-langsys
 returns-in-err-prune-script-langsys g c =
@@ -14,7 +14,7 @@ returns-in-err-prune-script-langsys g c =
     let p = err_from_is_err_and c.from-residual.result c.from-residual.ensures.1 in
     rw (p.1, p.2)
     (λ w a.
-    let step = kept_there (lookup eqb ms c.args.earliest.now) (map code_of c.args.tags.now) c.args.script (script_record r c.args.script) w c.in-There.count (sym c.is-kept-script.ensures ∙ c.if-not-is-kept-script.false) c.in-There.ensures in
+    let step = kept_there (lookup_beside eqb ms c.args.earliest.now) (map code_of c.args.tags.now) c.args.script (script_record r c.args.script) w c.in-There.count (sym c.is-kept-script.ensures ∙ c.if-not-is-kept-script.false) c.in-There.ensures in
     subst (λ s. Goes ms s c.prune-script-langsys.new.self (Err c.in-err-prune-script-langsys.field-0.0)) (sym step) (c.in-err-prune-script-langsys.ensures w a))
 
 pub returns-in-ok-prune-script-langsys : goal.returns-in-ok-prune-script-langsys
@@ -22,5 +22,5 @@ returns-in-ok-prune-script-langsys g c =
     let r = g.S.Source.reading c.args.source.now in
     let ms = c.args.matched.now in
     λ w a.
-    let step = kept_there (lookup eqb ms c.args.earliest.now) (map code_of c.args.tags.now) c.args.script (script_record r c.args.script) w c.in-There.count (sym c.is-kept-script.ensures ∙ c.if-not-is-kept-script.false) c.in-There.ensures in
+    let step = kept_there (lookup_beside eqb ms c.args.earliest.now) (map code_of c.args.tags.now) c.args.script (script_record r c.args.script) w c.in-There.count (sym c.is-kept-script.ensures ∙ c.if-not-is-kept-script.false) c.in-There.ensures in
     subst (λ s. Goes ms s c.prune-script-langsys.new.self (Ok true)) (sym step) (refl, c.in-ok-prune-script-langsys.ensures w a)

@@ -1,11 +1,11 @@
 use Rattle.std.proofs.Common.{cond, eqb, ltb, sym, ap, ◌∙◌, subst}
-use Rattle.std.specs.Map.{lookup}
 use Rattle.source.specs.declared.parts.LangSysPlace.TheVariants.{Default}
 use Rattle.source.specs.Questions.{script, lang_sys_of, lang_sys_records}
 use Rattle.numbering.specs.Systems.{count_script, visit_default}
 use Rattle.numbering.specs.Context.{Agrees, Walks, counted}
 use Rattle.numbering.proofs.Walking.{agrees-counted, script-walked}
 use Rattle.numbering.proofs.systems.PruneLangSysContext.prune_script_langsys.Goals as goal
+use Rattle.numbering.specs.Sets.{lookup_beside}
 
 pub returns : goal.returns
 returns g c =
@@ -17,5 +17,5 @@ returns g c =
     λ w a.
     let visited = c.visit-script.ensures.context ∙ ap (λ b. cond b (counted self) self) c.if-not-visit-script.false in
     let counts = subst (λ x. Agrees ms x (count_script w)) (sym visited) (agrees-counted a) in
-    let walked = script-walked (lookup eqb ms c.args.earliest.now) c.args.at d xs w (sym c.is-empty-script.ensures ∙ c.if-is-empty-script.false) (sym (ap (λ n. ltb n 500) a.scripts) ∙ (sym c.visit-script.ensures.counted ∙ c.if-not-visit-script.false)) in
+    let walked = script-walked (lookup_beside eqb ms c.args.earliest.now) c.args.at d xs w (sym c.is-empty-script.ensures ∙ c.if-is-empty-script.false) (sym (ap (λ n. ltb n 500) a.scripts) ∙ (sym c.visit-script.ensures.counted ∙ c.if-not-visit-script.false)) in
     subst (λ v. Walks ms v c.prune-records.new.self c.prune-records.result) (sym walked) (c.prune-records.ensures (visit_default d (count_script w)) (c.prune-default.ensures (count_script w) counts))

@@ -1,5 +1,4 @@
 use Rattle.std.proofs.Common.{◌+◌, eqb, map, length, get_or, drop, sym, ap, ◌∙◌, subst, arith}
-use Rattle.std.specs.Map.{lookup}
 use Rattle.std.proofs.lemmas.List.{at_drop_all}
 use Rattle.std.proofs.lemmas.Result.{err_from_is_err_and}
 use Rattle.source.specs.Questions.{no_script}
@@ -8,11 +7,12 @@ use Rattle.numbering.specs.Systems.{Walk, code_of, script_step, walk_scripts}
 use Rattle.numbering.specs.Context.{Agrees}
 use Rattle.numbering.proofs.Walking.{listed-count, scripts-at, scripts-more, step-ends, step-goes, step-full}
 use Rattle.numbering.proofs.systems.PruneLangSysContext.prune_scripts.Goals as goal
+use Rattle.numbering.specs.Sets.{lookup_beside}
 
 pub returns-in-err-prune-script : goal.returns-in-err-prune-script
 returns-in-err-prune-script g c =
     let r = g.S.Source.reading c.args.source.now in
-    let m = lookup eqb c.args.matched.now c.args.earliest.now in
+    let m = lookup_beside eqb c.args.matched.now c.args.earliest.now in
     let ts = map code_of c.args.tags.now in
     let xs = listed r.scripts in
     let k = c.loop-script.script in
@@ -29,7 +29,7 @@ returns-in-err-prune-script g c =
 pub returns-then-not-branch : goal.returns-then-not-branch
 returns-then-not-branch g c =
     let r = g.S.Source.reading c.args.source.now in
-    let m = lookup eqb c.args.matched.now c.args.earliest.now in
+    let m = lookup_beside eqb c.args.matched.now c.args.earliest.now in
     let ts = map code_of c.args.tags.now in
     let xs = listed r.scripts in
     let k = c.loop-script.script in
@@ -44,7 +44,7 @@ returns-then-not-branch g c =
 pub loop-script-preserved : goal.loop-script-preserved
 loop-script-preserved g c =
     let r = g.S.Source.reading c.args.source.now in
-    let m = lookup eqb c.args.matched.now c.args.earliest.now in
+    let m = lookup_beside eqb c.args.matched.now c.args.earliest.now in
     let ts = map code_of c.args.tags.now in
     let xs = listed r.scripts in
     let k = c.loop-script.script in
@@ -58,7 +58,7 @@ loop-script-preserved g c =
 pub returns : goal.returns
 returns g c =
     let r = g.S.Source.reading c.args.source.now in
-    let m = lookup eqb c.args.matched.now c.args.earliest.now in
+    let m = lookup_beside eqb c.args.matched.now c.args.earliest.now in
     let ts = map code_of c.args.tags.now in
     let xs = listed r.scripts in
     let size = c.count-count.ensures ∙ (ap counted c.script-list.ensures ∙ listed-count r.scripts) in
