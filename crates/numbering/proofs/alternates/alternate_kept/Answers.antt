@@ -5,13 +5,13 @@ use Rattle.numbering.specs.Stages.{names_alternate}
 use Rattle.numbering.proofs.Members.{any_at, any-nowhere, variations-there}
 use Rattle.numbering.proofs.alternates.alternate_kept.Goals as goal
 
-pub returns-then-substitution-names : goal.returns-then-substitution-names
-returns-then-substitution-names g c =
+pub returns-then-substitution_names : goal.returns-then-substitution_names
+returns-then-substitution_names g c =
     let table = (g.S.Source.reading c.args.source.now).variations in
-    sym (any_at (λ v. any (names_alternate c.args.lookups.now c.args.i) (substitution_records v.substitution)) no_variation refl (variation_records table) c.loop-at.at (sym c.substitution-names.ensures ∙ c.if-substitution-names.true))
+    sym (any_at (λ v. any (names_alternate c.args.lookups.now c.args.i) (substitution_records v.substitution)) no_variation refl (variation_records table) c.loop-at.at (sym c.substitution_names.ensures ∙ c.if-substitution_names.true))
 
 pub loop-at-preserved : goal.loop-at-preserved
-loop-at-preserved g c = below_more _ _ c.loop-at.invariant (sym c.substitution-names.ensures ∙ c.if-substitution-names.false)
+loop-at-preserved g c = below_more _ _ c.loop-at.invariant (sym c.substitution_names.ensures ∙ c.if-substitution_names.false)
 
 pub returns : goal.returns
 returns g c =

@@ -4,13 +4,13 @@ use Rattle.numbering.specs.Stages.{unread_substitution}
 use Rattle.numbering.proofs.Members.{any_at, any-nowhere, variations-there}
 use Rattle.numbering.proofs.alternates.alternates_unread.Goals as goal
 
-pub returns-then-unread-substitution : goal.returns-then-unread-substitution
-returns-then-unread-substitution g c =
+pub returns-then-unread_substitution : goal.returns-then-unread_substitution
+returns-then-unread_substitution g c =
     let table = (g.S.Source.reading c.args.source.now).variations in
-    sym (any_at (unread_substitution) no_variation refl (variation_records table) c.loop-at.at (sym c.unread_substitution.ensures ∙ c.if-unread-substitution.true))
+    sym (any_at (unread_substitution) no_variation refl (variation_records table) c.loop-at.at (sym c.unread_substitution.ensures ∙ c.if-unread_substitution.true))
 
 pub loop-at-preserved : goal.loop-at-preserved
-loop-at-preserved g c = below_more _ _ c.loop-at.invariant (sym c.unread_substitution.ensures ∙ c.if-unread-substitution.false)
+loop-at-preserved g c = below_more _ _ c.loop-at.invariant (sym c.unread_substitution.ensures ∙ c.if-unread_substitution.false)
 
 pub returns : goal.returns
 returns g c =

@@ -8,7 +8,7 @@ pub returns-then-j-i : goal.returns-then-j-i
 returns-then-j-i g c =
     let r = g.S.Source.reading c.args.source.now in
     let found = index-found (substitution_records (variation_record r c.args.at).substitution) c.args.k c.in-Some.j (sym c.in-Some.ensures) in
-    named-yes c.args.lookups.now c.args.i (substitution_record r c.args.at c.args.k) c.feature-intersects-lookups.result (found ∙ c.if-j-i.true) c.feature-intersects-lookups.ensures
+    named-yes c.args.lookups.now c.args.i (substitution_record r c.args.at c.args.k) c.feature_intersects_lookups.result (found ∙ c.if-j-i.true) c.feature_intersects_lookups.ensures
 
 pub returns-else-j-i : goal.returns-else-j-i
 returns-else-j-i g c =

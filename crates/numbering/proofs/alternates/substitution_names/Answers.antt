@@ -5,13 +5,13 @@ use Rattle.numbering.specs.Stages.{names_alternate}
 use Rattle.numbering.proofs.Members.{any_at, any-nowhere, substitution-there}
 use Rattle.numbering.proofs.alternates.substitution_names.Goals as goal
 
-pub returns-then-names-alternate : goal.returns-then-names-alternate
-returns-then-names-alternate g c =
+pub returns-then-names_alternate : goal.returns-then-names_alternate
+returns-then-names_alternate g c =
     let table = (variation_record (g.S.Source.reading c.args.source.now) c.args.at).substitution in
-    sym (any_at (names_alternate c.args.lookups.now c.args.i) no_substitution (and_right (eqb 0 c.args.i) false refl) (substitution_records table) c.loop-k.k (sym c.names_alternate.ensures ∙ c.if-names-alternate.true))
+    sym (any_at (names_alternate c.args.lookups.now c.args.i) no_substitution (and_right (eqb 0 c.args.i) false refl) (substitution_records table) c.loop-k.k (sym c.names_alternate.ensures ∙ c.if-names_alternate.true))
 
 pub loop-k-preserved : goal.loop-k-preserved
-loop-k-preserved g c = below_more _ _ c.loop-k.invariant (sym c.names_alternate.ensures ∙ c.if-names-alternate.false)
+loop-k-preserved g c = below_more _ _ c.loop-k.invariant (sym c.names_alternate.ensures ∙ c.if-names_alternate.false)
 
 pub returns : goal.returns
 returns g c =

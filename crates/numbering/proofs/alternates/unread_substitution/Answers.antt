@@ -7,14 +7,14 @@ use Rattle.numbering.specs.Stages.{is_unreadable}
 use Rattle.numbering.proofs.Members.{any_at, any-nowhere, substitution-there}
 use Rattle.numbering.proofs.alternates.unread_substitution.Goals as goal
 
-pub returns-then-unread-alternate : goal.returns-then-unread-alternate
-returns-then-unread-alternate g c =
+pub returns-then-unread_alternate : goal.returns-then-unread_alternate
+returns-then-unread_alternate g c =
     let table = (variation_record (g.S.Source.reading c.args.source.now) c.args.at).substitution in
-    let found = sym c.unread-alternate.ensures ∙ c.if-unread-alternate.true in
+    let found = sym c.unread_alternate.ensures ∙ c.if-unread_alternate.true in
     sym (or_right (is_unreadable table) (any (λ s. is_unreadable s.alternate) (substitution_records table)) (any_at (λ s. is_unreadable s.alternate) no_substitution refl (substitution_records table) c.loop-k.k found))
 
 pub loop-k-preserved : goal.loop-k-preserved
-loop-k-preserved g c = below_more _ _ c.loop-k.invariant (sym c.unread-alternate.ensures ∙ c.if-unread-alternate.false)
+loop-k-preserved g c = below_more _ _ c.loop-k.invariant (sym c.unread_alternate.ensures ∙ c.if-unread_alternate.false)
 
 pub returns : goal.returns
 returns g c =

@@ -8,15 +8,15 @@ pub returns : goal.returns
 returns g c =
     let r = g.S.Source.reading c.args.source.now in
     let ls = c.args.lookups.now in
-    let vs = c.prune-features-count.new.out in
-    let n = c.prune-features-count.result in
-    let list = c.prune-features-count.ensures.list in
-    let whole : c.prune-features-count.result - 0 ≡ c.prune-features-count.result = omega arith in
+    let vs = c.prune_features-count.new.out in
+    let n = c.prune_features-count.result in
+    let list = c.prune_features-count.ensures.list in
+    let whole : c.prune_features-count.result - 0 ≡ c.prune_features-count.result = omega arith in
     let cut = ap (λ k. take k vs) whole in
-    let found = c.find-duplicates-by-scan-matched.ensures in
-    let below : c.find-duplicates-by-scan-matched.result ≤ c.prune-features-count.result - 0 = omega (arith, found.count, length-take (n - 0) vs) in
+    let found = c.find_duplicates_by_scan-matched.ensures in
+    let below : c.find_duplicates_by_scan-matched.result ≤ c.prune_features-count.result - 0 = omega (arith, found.count, length-take (n - 0) vs) in
     record {
       surviving = list;
-      matching = sym (take-take c.find-duplicates-by-scan-matched.result (n - 0) vs below) ∙ (found.front ∙ ap (matched r) (cut ∙ list));
+      matching = sym (take-take c.find_duplicates_by_scan-matched.result (n - 0) vs below) ∙ (found.front ∙ ap (matched r) (cut ∙ list));
       earliest_matches = found.list ∙ ap (earliest_of r ls) (cut ∙ list);
     }

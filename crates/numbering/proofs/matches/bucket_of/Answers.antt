@@ -13,8 +13,8 @@ returns g c =
     let i = c.args.index in
     let xs = lookups_of (feature r (Listed i)) in
     record {
-      value = ap (λ h. h % 239) (c.mix-numbers-h.ensures
-          ∙ (ap (λ t. mixed (t % 65521) (somes (map (if_among ls) xs))) c.feature-tag.ensures
+      value = ap (λ h. h % 239) (c.mix_numbers-h.ensures
+          ∙ (ap (λ t. mixed (t % 65521) (somes (map (if_among ls) xs))) c.feature_tag.ensures
           ∙ ap (mixed ((feature_record r i).tag % 65521)) (somes-among ls xs)));
       below = omega arith;
     }

@@ -11,19 +11,19 @@ use Rattle.numbering.proofs.Members.{there-mapped}
 use Rattle.numbering.proofs.Matching.{matched-more, matched-ends, matched-all, all-earliest}
 use Rattle.numbering.proofs.matches.find_duplicate_features.Goals as goal
 
-pub returns-in-default : goal.returns-in-default
-returns-in-default g c =
+pub returns-in_default : goal.returns-in_default
+returns-in_default g c =
     let r = g.S.Source.reading c.args.source.now in
     let vs = c.args.survivors.now in
-    let ends = matched-ends r vs c.loop-v.v c.loop-v-test.true (λ t e. c.in-default.not-There (length t.lookups) (c.feature.ensures ∙ ap (mapped (λ (x : FeatureTable). length x.lookups)) e)) c.loop-v.invariant.0 in
+    let ends = matched-ends r vs c.loop-v.v c.loop-v-test.true (λ t e. c.in_default.not-There (length t.lookups) (c.feature.ensures ∙ ap (mapped (λ (x : FeatureTable). length x.lookups)) e)) c.loop-v.invariant.0 in
     record {
       count = omega arith;
       front = ends;
       list = all-earliest r c.args.lookups.now vs c.loop-v.out c.loop-v.v (omega arith) (omega arith) ends c.loop-v.invariant.1;
     }
 
-pub earliest-match-requires : goal.earliest-match-requires
-earliest-match-requires g c = record { lookups = c.requires.0.0; place = (c.loop-v-test.true, (omega arith, omega arith)); chains = c.loop-v.invariant.2; bucket = (c.bucket-of-bucket.ensures.value, c.bucket-of-bucket.ensures.below); known = c.loop-v.invariant.1 }
+pub earliest_match-requires : goal.earliest_match-requires
+earliest_match-requires g c = record { lookups = c.requires.0.0; place = (c.loop-v-test.true, (omega arith, omega arith)); chains = c.loop-v.invariant.2; bucket = (c.bucket_of-bucket.ensures.value, c.bucket_of-bucket.ensures.below); known = c.loop-v.invariant.1 }
 
 pub loop-v-preserved : goal.loop-v-preserved
 loop-v-preserved g c =
@@ -33,9 +33,9 @@ loop-v-preserved g c =
     let v = c.loop-v.v in
     let at = there-mapped (λ (x : FeatureTable). length x.lookups) (feature r (Listed (get_or vs v 0))) c.in-There.field-0 c.in-There.ensures in (
       matched-more r vs v c.loop-v-test.true at.0 at.1 c.loop-v.invariant.0,
-      below_more _ _ (λ k h. let apart : k ≢ v = omega arith in get_or-set_other out v k c.earliest-match.result 0 apart ∙ c.loop-v.invariant.1 k h)
-          (get_or-set_same out v c.earliest-match.result 0 (omega arith) ∙ c.earliest-match.ensures),
-      c.add.ensures (λ p. bucket_in r c.args.lookups.now (get_or vs p 0)) c.loop-v.invariant.2 (sym c.bucket-of-bucket.ensures.value),
+      below_more _ _ (λ k h. let apart : k ≢ v = omega arith in get_or-set_other out v k c.earliest_match.result 0 apart ∙ c.loop-v.invariant.1 k h)
+          (get_or-set_same out v c.earliest_match.result 0 (omega arith) ∙ c.earliest_match.ensures),
+      c.add.ensures (λ p. bucket_in r c.args.lookups.now (get_or vs p 0)) c.loop-v.invariant.2 (sym c.bucket_of-bucket.ensures.value),
     )
 
 pub returns : goal.returns

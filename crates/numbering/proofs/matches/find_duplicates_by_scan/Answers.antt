@@ -10,11 +10,11 @@ use Rattle.numbering.proofs.Members.{there-mapped}
 use Rattle.numbering.proofs.Matching.{matched-more, matched-ends, matched-all, all-earliest}
 use Rattle.numbering.proofs.matches.find_duplicates_by_scan.Goals as goal
 
-pub returns-in-default : goal.returns-in-default
-returns-in-default g c =
+pub returns-in_default : goal.returns-in_default
+returns-in_default g c =
     let r = g.S.Source.reading c.args.source.now in
     let vs = c.args.survivors.now in
-    let ends = matched-ends r vs c.loop-v.v c.loop-v-test.true (λ t e. c.in-default.not-There (length t.lookups) (c.feature.ensures ∙ ap (mapped (λ (x : FeatureTable). length x.lookups)) e)) c.loop-v.invariant.0 in
+    let ends = matched-ends r vs c.loop-v.v c.loop-v-test.true (λ t e. c.in_default.not-There (length t.lookups) (c.feature.ensures ∙ ap (mapped (λ (x : FeatureTable). length x.lookups)) e)) c.loop-v.invariant.0 in
     record {
       count = omega arith;
       front = ends;

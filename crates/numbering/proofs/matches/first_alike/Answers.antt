@@ -4,15 +4,15 @@ use Rattle.numbering.specs.Stages.{earliest}
 use Rattle.numbering.proofs.Matching.{earliest-here, earliest-later}
 use Rattle.numbering.proofs.matches.first_alike.Goals as goal
 
-pub returns-then-is-alike : goal.returns-then-is-alike
-returns-then-is-alike g c =
+pub returns-then-is_alike : goal.returns-then-is_alike
+returns-then-is_alike g c =
     let r = g.S.Source.reading c.args.source.now in
-    sym (sym c.loop-k.invariant ∙ earliest-here r c.args.lookups.now c.args.seen.now c.loop-k.k c.args.i c.loop-k-test.true (sym c.is-alike.ensures ∙ c.if-is-alike.true))
+    sym (sym c.loop-k.invariant ∙ earliest-here r c.args.lookups.now c.args.seen.now c.loop-k.k c.args.i c.loop-k-test.true (sym c.is_alike.ensures ∙ c.if-is_alike.true))
 
 pub loop-k-preserved : goal.loop-k-preserved
 loop-k-preserved g c =
     let r = g.S.Source.reading c.args.source.now in
-    sym (earliest-later r c.args.lookups.now c.args.seen.now c.loop-k.k c.args.i c.loop-k-test.true (sym c.is-alike.ensures ∙ c.if-is-alike.false)) ∙ c.loop-k.invariant
+    sym (earliest-later r c.args.lookups.now c.args.seen.now c.loop-k.k c.args.i c.loop-k-test.true (sym c.is_alike.ensures ∙ c.if-is_alike.false)) ∙ c.loop-k.invariant
 
 pub returns : goal.returns
 returns g c =

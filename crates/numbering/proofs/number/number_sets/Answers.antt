@@ -12,82 +12,82 @@ use Rattle.numbering.proofs.Walking.{pairs-kept}
 use Rattle.numbering.proofs.Whole.{whole-matched, whole-earliest, settle, lend, matched-few, paired, retained-up, retained-few, retained-settled, targets, whole-numbering}
 use Rattle.numbering.proofs.number.number_sets.Goals as goal
 
-pub prune-langsys-requires : goal.prune-langsys-requires
-prune-langsys-requires g c =
+pub prune_langsys-requires : goal.prune_langsys-requires
+prune_langsys-requires g c =
     let r = g.S.Source.reading c.args.source.now in
     let ls = c.args.lookups.now in
     let fs = c.args.features.now in
-    let A = c.prune-features-survived.new.out in
-    let B = c.find-duplicate-features-matched.new.out in
-    let k = c.prune-features-survived.result in
-    let j = c.find-duplicate-features-matched.result in
-    let alive = c.prune-features-survived.ensures.list in
-    let found = c.find-duplicate-features-matched.ensures in
+    let A = c.prune_features-survived.new.out in
+    let B = c.find_duplicate_features-matched.new.out in
+    let k = c.prune_features-survived.result in
+    let j = c.find_duplicate_features-matched.result in
+    let alive = c.prune_features-survived.ensures.list in
+    let found = c.find_duplicate_features-matched.ensures in
     let mm = whole-matched r ls fs A B k j alive found.count found.front in
     let ee = whole-earliest r ls fs A B k j alive found.list in
     record { 0 = (lend r ls fs A B j mm ee Paired (paired r ls fs c.requires.features c.requires.few_features), lend r ls fs A B j mm ee (λ ms _. length ms ≤ 512) (matched-few r ls fs c.requires.features c.requires.few_features)); tags = c.requires.scripts }
 
-pub returns-in-err-paired : goal.returns-in-err-paired
-returns-in-err-paired g c =
+pub returns-in_err-paired : goal.returns-in_err-paired
+returns-in_err-paired g c =
     let r = g.S.Source.reading c.args.source.now in
     let ls = c.args.lookups.now in
     let fs = c.args.features.now in
     let ts = map code_of c.args.scripts.now in
-    let A = c.prune-features-survived.new.out in
-    let B = c.find-duplicate-features-matched.new.out in
-    let k = c.prune-features-survived.result in
-    let j = c.find-duplicate-features-matched.result in
-    let alive = c.prune-features-survived.ensures.list in
-    let found = c.find-duplicate-features-matched.ensures in
+    let A = c.prune_features-survived.new.out in
+    let B = c.find_duplicate_features-matched.new.out in
+    let k = c.prune_features-survived.result in
+    let j = c.find_duplicate_features-matched.result in
+    let alive = c.prune_features-survived.ensures.list in
+    let found = c.find_duplicate_features-matched.ensures in
     let mm = whole-matched r ls fs A B k j alive found.count found.front in
     let ee = whole-earliest r ls fs A B k j alive found.list in
     let start = lend r ls fs A B j mm ee (λ ms _. Agrees ms c.new-context.result no_walk) (c.new-context.ensures (the_matched r ls fs) (matched-few r ls fs c.requires.features c.requires.few_features)) in
-    let full = c.in-err-paired.ensures no_walk start in
+    let full = c.in_err-paired.ensures no_walk start in
     let p = err_from_is_err_and c.from-residual.result c.from-residual.ensures.1 in
     rw (p.1, p.2)
     (full.0, settle r ls fs A B j mm ee (λ ms es. 2048 < length (walk_scripts (lookup_beside eqb ms es) ts 0 (listed r.scripts) no_walk).pairs) full.1)
 
-pub slice-bounds-remap-feature-indices-end : goal.slice-bounds-remap-feature-indices-end
-slice-bounds-remap-feature-indices-end g c =
+pub slice-bounds-remap_feature_indices-end : goal.slice-bounds-remap_feature_indices-end
+slice-bounds-remap_feature_indices-end g c =
     let r = g.S.Source.reading c.args.source.now in
     let ls = c.args.lookups.now in
     let fs = c.args.features.now in
     let ts = map code_of c.args.scripts.now in
-    let A = c.prune-features-survived.new.out in
-    let B = c.find-duplicate-features-matched.new.out in
-    let k = c.prune-features-survived.result in
-    let j = c.find-duplicate-features-matched.result in
-    let alive = c.prune-features-survived.ensures.list in
-    let found = c.find-duplicate-features-matched.ensures in
+    let A = c.prune_features-survived.new.out in
+    let B = c.find_duplicate_features-matched.new.out in
+    let k = c.prune_features-survived.result in
+    let j = c.find_duplicate_features-matched.result in
+    let alive = c.prune_features-survived.ensures.list in
+    let found = c.find_duplicate_features-matched.ensures in
     let mm = whole-matched r ls fs A B k j alive found.count found.front in
     let ee = whole-earliest r ls fs A B k j alive found.list in
     let start = lend r ls fs A B j mm ee (λ ms _. Agrees ms c.new-context.result no_walk) (c.new-context.ensures (the_matched r ls fs) (matched-few r ls fs c.requires.features c.requires.few_features)) in
-    let self = c.prune-langsys.new.self in
-    let out = c.prune-langsys.new.out in
-    let count = c.in-ok-paired.count in
-    let walked = settle r ls fs A B j mm ee (λ ms es. Walked ms (walk_scripts (lookup_beside eqb ms es) ts 0 (listed r.scripts) no_walk) self out c.in-ok-paired.paired count) (c.in-ok-paired.ensures no_walk start) in
-    omega (arith, walked.2, retained-few r ls fs c.requires.features c.requires.few_features ts, c.prune-langsys.auto.out)
+    let self = c.prune_langsys.new.self in
+    let out = c.prune_langsys.new.out in
+    let count = c.in_ok-paired.count in
+    let walked = settle r ls fs A B j mm ee (λ ms es. Walked ms (walk_scripts (lookup_beside eqb ms es) ts 0 (listed r.scripts) no_walk) self out c.in_ok-paired.paired count) (c.in_ok-paired.ensures no_walk start) in
+    omega (arith, walked.2, retained-few r ls fs c.requires.features c.requires.few_features ts, c.prune_langsys.auto.out)
 
-pub remap-feature-indices-own-requires : goal.remap-feature-indices-own-requires
-remap-feature-indices-own-requires g c =
+pub remap_feature_indices-own-requires : goal.remap_feature_indices-own-requires
+remap_feature_indices-own-requires g c =
     let r = g.S.Source.reading c.args.source.now in
     let ls = c.args.lookups.now in
     let fs = c.args.features.now in
     let ts = map code_of c.args.scripts.now in
-    let A = c.prune-features-survived.new.out in
-    let B = c.find-duplicate-features-matched.new.out in
-    let k = c.prune-features-survived.result in
-    let j = c.find-duplicate-features-matched.result in
-    let alive = c.prune-features-survived.ensures.list in
-    let found = c.find-duplicate-features-matched.ensures in
+    let A = c.prune_features-survived.new.out in
+    let B = c.find_duplicate_features-matched.new.out in
+    let k = c.prune_features-survived.result in
+    let j = c.find_duplicate_features-matched.result in
+    let alive = c.prune_features-survived.ensures.list in
+    let found = c.find_duplicate_features-matched.ensures in
     let mm = whole-matched r ls fs A B k j alive found.count found.front in
     let ee = whole-earliest r ls fs A B k j alive found.list in
     let start = lend r ls fs A B j mm ee (λ ms _. Agrees ms c.new-context.result no_walk) (c.new-context.ensures (the_matched r ls fs) (matched-few r ls fs c.requires.features c.requires.few_features)) in
-    let self = c.prune-langsys.new.self in
-    let out = c.prune-langsys.new.out in
-    let count = c.in-ok-paired.count in
-    let walked = settle r ls fs A B j mm ee (λ ms es. Walked ms (walk_scripts (lookup_beside eqb ms es) ts 0 (listed r.scripts) no_walk) self out c.in-ok-paired.paired count) (c.in-ok-paired.ensures no_walk start) in
-    let rest : c.in-ok-paired.count - 0 ≡ c.in-ok-paired.count = omega arith in
+    let self = c.prune_langsys.new.self in
+    let out = c.prune_langsys.new.out in
+    let count = c.in_ok-paired.count in
+    let walked = settle r ls fs A B j mm ee (λ ms es. Walked ms (walk_scripts (lookup_beside eqb ms es) ts 0 (listed r.scripts) no_walk) self out c.in_ok-paired.paired count) (c.in_ok-paired.ensures no_walk start) in
+    let rest : c.in_ok-paired.count - 0 ≡ c.in_ok-paired.count = omega arith in
     let same = ap (λ n. take n out) rest ∙ walked.3 in
     let size = ap length same in
     (subst Ascends (sym same) (retained-up r ls fs c.requires.features c.requires.few_features ts), (omega (arith, size, retained-few r ls fs c.requires.features c.requires.few_features ts, c.choose.auto.out), omega (arith, size, retained-few r ls fs c.requires.features c.requires.few_features ts)))
@@ -98,19 +98,19 @@ invariant-of-result-3 g c =
     let ls = c.args.lookups.now in
     let fs = c.args.features.now in
     let ts = map code_of c.args.scripts.now in
-    let A = c.prune-features-survived.new.out in
-    let B = c.find-duplicate-features-matched.new.out in
-    let k = c.prune-features-survived.result in
-    let j = c.find-duplicate-features-matched.result in
-    let alive = c.prune-features-survived.ensures.list in
-    let found = c.find-duplicate-features-matched.ensures in
+    let A = c.prune_features-survived.new.out in
+    let B = c.find_duplicate_features-matched.new.out in
+    let k = c.prune_features-survived.result in
+    let j = c.find_duplicate_features-matched.result in
+    let alive = c.prune_features-survived.ensures.list in
+    let found = c.find_duplicate_features-matched.ensures in
     let mm = whole-matched r ls fs A B k j alive found.count found.front in
     let ee = whole-earliest r ls fs A B k j alive found.list in
     let start = lend r ls fs A B j mm ee (λ ms _. Agrees ms c.new-context.result no_walk) (c.new-context.ensures (the_matched r ls fs) (matched-few r ls fs c.requires.features c.requires.few_features)) in
-    let self = c.prune-langsys.new.self in
-    let out = c.prune-langsys.new.out in
-    let count = c.in-ok-paired.count in
-    let walked = settle r ls fs A B j mm ee (λ ms es. Walked ms (walk_scripts (lookup_beside eqb ms es) ts 0 (listed r.scripts) no_walk) self out c.in-ok-paired.paired count) (c.in-ok-paired.ensures no_walk start) in
+    let self = c.prune_langsys.new.self in
+    let out = c.prune_langsys.new.out in
+    let count = c.in_ok-paired.count in
+    let walked = settle r ls fs A B j mm ee (λ ms es. Walked ms (walk_scripts (lookup_beside eqb ms es) ts 0 (listed r.scripts) no_walk) self out c.in_ok-paired.paired count) (c.in_ok-paired.ensures no_walk start) in
     (omega (arith, walked.2, retained-few r ls fs c.requires.features c.requires.few_features ts), tt)
 
 pub invariant-of-result-5 : goal.invariant-of-result-5
@@ -119,19 +119,19 @@ invariant-of-result-5 g c =
     let ls = c.args.lookups.now in
     let fs = c.args.features.now in
     let ts = map code_of c.args.scripts.now in
-    let A = c.prune-features-survived.new.out in
-    let B = c.find-duplicate-features-matched.new.out in
-    let k = c.prune-features-survived.result in
-    let j = c.find-duplicate-features-matched.result in
-    let alive = c.prune-features-survived.ensures.list in
-    let found = c.find-duplicate-features-matched.ensures in
+    let A = c.prune_features-survived.new.out in
+    let B = c.find_duplicate_features-matched.new.out in
+    let k = c.prune_features-survived.result in
+    let j = c.find_duplicate_features-matched.result in
+    let alive = c.prune_features-survived.ensures.list in
+    let found = c.find_duplicate_features-matched.ensures in
     let mm = whole-matched r ls fs A B k j alive found.count found.front in
     let ee = whole-earliest r ls fs A B k j alive found.list in
     let start = lend r ls fs A B j mm ee (λ ms _. Agrees ms c.new-context.result no_walk) (c.new-context.ensures (the_matched r ls fs) (matched-few r ls fs c.requires.features c.requires.few_features)) in
-    let self = c.prune-langsys.new.self in
-    let out = c.prune-langsys.new.out in
-    let count = c.in-ok-paired.count in
-    let walked = settle r ls fs A B j mm ee (λ ms es. Walked ms (walk_scripts (lookup_beside eqb ms es) ts 0 (listed r.scripts) no_walk) self out c.in-ok-paired.paired count) (c.in-ok-paired.ensures no_walk start) in
+    let self = c.prune_langsys.new.self in
+    let out = c.prune_langsys.new.out in
+    let count = c.in_ok-paired.count in
+    let walked = settle r ls fs A B j mm ee (λ ms es. Walked ms (walk_scripts (lookup_beside eqb ms es) ts 0 (listed r.scripts) no_walk) self out c.in_ok-paired.paired count) (c.in_ok-paired.ensures no_walk start) in
     (omega (arith, walked.1, pairs-kept walked.0, walked.0.filled), tt)
 
 pub returns : goal.returns
@@ -140,31 +140,31 @@ returns g c =
     let ls = c.args.lookups.now in
     let fs = c.args.features.now in
     let ts = map code_of c.args.scripts.now in
-    let A = c.prune-features-survived.new.out in
-    let B = c.find-duplicate-features-matched.new.out in
-    let k = c.prune-features-survived.result in
-    let j = c.find-duplicate-features-matched.result in
-    let alive = c.prune-features-survived.ensures.list in
-    let found = c.find-duplicate-features-matched.ensures in
+    let A = c.prune_features-survived.new.out in
+    let B = c.find_duplicate_features-matched.new.out in
+    let k = c.prune_features-survived.result in
+    let j = c.find_duplicate_features-matched.result in
+    let alive = c.prune_features-survived.ensures.list in
+    let found = c.find_duplicate_features-matched.ensures in
     let mm = whole-matched r ls fs A B k j alive found.count found.front in
     let ee = whole-earliest r ls fs A B k j alive found.list in
     let start = lend r ls fs A B j mm ee (λ ms _. Agrees ms c.new-context.result no_walk) (c.new-context.ensures (the_matched r ls fs) (matched-few r ls fs c.requires.features c.requires.few_features)) in
-    let self = c.prune-langsys.new.self in
-    let out = c.prune-langsys.new.out in
-    let count = c.in-ok-paired.count in
-    let walked = settle r ls fs A B j mm ee (λ ms es. Walked ms (walk_scripts (lookup_beside eqb ms es) ts 0 (listed r.scripts) no_walk) self out c.in-ok-paired.paired count) (c.in-ok-paired.ensures no_walk start) in
+    let self = c.prune_langsys.new.self in
+    let out = c.prune_langsys.new.out in
+    let count = c.in_ok-paired.count in
+    let walked = settle r ls fs A B j mm ee (λ ms es. Walked ms (walk_scripts (lookup_beside eqb ms es) ts 0 (listed r.scripts) no_walk) self out c.in_ok-paired.paired count) (c.in_ok-paired.ensures no_walk start) in
     let rs = the_retained r ls fs ts in
     let f = first_alike r ls fs in
-    let whole : c.find-duplicate-features-matched.result - 0 ≡ c.find-duplicate-features-matched.result = omega arith in
-    let rest : c.in-ok-paired.count - 0 ≡ c.in-ok-paired.count = omega arith in
+    let whole : c.find_duplicate_features-matched.result - 0 ≡ c.find_duplicate_features-matched.result = omega arith in
+    let rest : c.in_ok-paired.count - 0 ≡ c.in_ok-paired.count = omega arith in
     let same = ap (λ n. take n out) rest ∙ walked.3 in
-    let size : length (take (c.in-ok-paired.count - 0) c.prune-langsys.new.out) ≡ c.in-ok-paired.count = ap length same ∙ sym walked.2 in
+    let size : length (take (c.in_ok-paired.count - 0) c.prune_langsys.new.out) ≡ c.in_ok-paired.count = ap length same ∙ sym walked.2 in
     let tg = c.choose.new.out in
     let chose = ap (chosen self.named) (ap (λ n. take n B) whole ∙ ee) ∙ targets r ls fs c.requires.features c.requires.few_features ts self walked.0 in
     let many = c.choose.ensures.count ∙ (ap length chose ∙ length-map rs f) in
     let lent = subst (λ xs. take (length xs) tg ≡ map f xs) (sym same) (ap (λ n. take n tg) (sym many) ∙ (c.choose.ensures.list ∙ chose)) in
     let settled = subst (λ xs. Settled xs f) (sym same) (retained-settled r ls fs c.requires.features c.requires.few_features ts) in
     whole-numbering r ls fs c.requires.features c.requires.few_features ts _ alive ee walked.3
-    (ap (λ n. take n c.remap-feature-indices-own.new.numbers) (sym size) ∙ (c.remap-feature-indices-own.ensures.list f lent settled ∙ ap (λ xs. map (number xs f) xs) same))
-    (c.remap-feature-indices-own.ensures.count f lent settled ∙ ap (λ xs. length (owners xs f)) same)
+    (ap (λ n. take n c.remap_feature_indices-own.new.numbers) (sym size) ∙ (c.remap_feature_indices-own.ensures.list f lent settled ∙ ap (λ xs. map (number xs f) xs) same))
+    (c.remap_feature_indices-own.ensures.count f lent settled ∙ ap (λ xs. length (owners xs f)) same)
     (ap (λ n. take n self.pairs) (walked.1 ∙ sym (pairs-kept walked.0)) ∙ walked.0.pairs)

@@ -27,7 +27,7 @@ loop-k-preserved c =
     let k = c.loop-k.k in
     let own = c.loop-k.own in
     let up = ascends-take rs c.requires.0 (c.loop-k.k - 0) (omega arith) in
-    elim c.match-place-in.branch [
+    elim c.match-place_in.branch [
       | in-Some w ↦ rw (w.numbers-is, w.own-is) (turn-shared rs es old ns k own c.requires.0 c.loop-k-test.true (omega arith) c.loop-k.invariant w.in-Some.q (w.in-Some.ensures up))
       | in-None w ↦ rw (w.numbers-is, w.own-is) (turn-own rs es old ns k own c.requires.0 c.loop-k-test.true (omega arith) c.loop-k.invariant (w.in-None.ensures up))
     ]

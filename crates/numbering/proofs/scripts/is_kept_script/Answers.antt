@@ -7,5 +7,5 @@ use Rattle.numbering.proofs.scripts.is_kept_script.Goals as goal
 
 pub returns : goal.returns
 returns g c =
-    same_from_decides c.contains.result _ (c.contains.ensures.held, c.contains.ensures.found c.requires) (tag-among c.args.tags.now c.script-tag.result)
-    ∙ ap (among (map code_of c.args.tags.now)) c.script-tag.ensures
+    same_from_decides c.contains.result _ (c.contains.ensures.held, c.contains.ensures.found c.requires) (tag-among c.args.tags.now c.script_tag.result)
+    ∙ ap (among (map code_of c.args.tags.now)) c.script_tag.ensures

@@ -9,7 +9,7 @@ pub loop-k-preserved : goal.loop-k-preserved
 loop-k-preserved g c =
     let xs = g.Q.Sequence.places c.args.q.now in
     let rest = somes (drop (c.loop-k.k + 1) xs) in
-    elim c.match-number-at.branch [
+    elim c.match-number_at.branch [
       | in-Some w ↦ (omega (arith, w.h-is), ap (λ h. mixed h rest) w.h-is ∙ (sym (ap (mixed c.loop-k.h) (given xs c.loop-k.k w.in-Some.x (sym w.in-Some.ensures))) ∙ c.loop-k.invariant.1))
       | in-default w ↦ (omega (arith, w.h-is, c.loop-k.invariant.0), ap (λ h. mixed h rest) w.h-is ∙ (sym (ap (mixed c.loop-k.h) (left_out xs c.loop-k.k (sym w.in-default.ensures))) ∙ c.loop-k.invariant.1))
     ]

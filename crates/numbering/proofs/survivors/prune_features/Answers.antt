@@ -7,11 +7,11 @@ use Rattle.numbering.proofs.Surviving.{survives, goes, stops}
 use Rattle.numbering.proofs.survivors.prune_features.Goals as goal
 use Rattle.numbering.proofs.survivors.prune_features.Goals.{then-survives, else-survives}
 
-pub returns-in-default : goal.returns-in-default
-returns-in-default g c =
+pub returns-in_default : goal.returns-in_default
+returns-in_default g c =
     let r = g.S.Source.reading c.args.source.now in
     let front = take c.loop-j.n c.loop-j.out in
-    let ended = stops r c.args.lookups.now c.args.features.now c.loop-j.j c.loop-j-test.true (λ b e. c.in-default.not-There b (c.judge.ensures ∙ e)) in
+    let ended = stops r c.args.lookups.now c.args.features.now c.loop-j.j c.loop-j-test.true (λ b e. c.in_default.not-There b (c.judge.ensures ∙ e)) in
     record { count = omega arith; list = sym (append-nil front) ∙ sym (ap (λ xs. front ++ xs) ended) ∙ c.loop-j.invariant.1 }
 
 pub loop-j-preserved : goal.loop-j-preserved

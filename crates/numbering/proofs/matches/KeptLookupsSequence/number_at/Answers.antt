@@ -9,4 +9,4 @@ pub returns : goal.returns
 returns g c =
     let q = c.args.self.now in
     let xs = lookups_of (feature (g.S.Source.reading q.source.now) (Listed q.index)) in
-    c.if-kept.ensures ∙ (ap (place_by (if_among q.lookups.now)) c.lookup.ensures ∙ sym (place_of (if_among q.lookups.now) xs c.args.k))
+    c.if_kept.ensures ∙ (ap (place_by (if_among q.lookups.now)) c.lookup.ensures ∙ sym (place_of (if_among q.lookups.now) xs c.args.k))

@@ -7,15 +7,15 @@ use Rattle.numbering.proofs.Whole.{chosen-retained}
 use Rattle.numbering.proofs.systems.PruneLangSysContext.prune_langsys.Goals as goal
 use Rattle.numbering.specs.Sets.{lookup_beside}
 
-pub returns-in-err-prune-scripts : goal.returns-in-err-prune-scripts
-returns-in-err-prune-scripts g c =
-    let p = err_from_is_err_and c.from-residual.result c.from-residual.ensures.1 in rw (p.1, p.2) (λ w a. c.in-err-prune-scripts.ensures w a)
+pub returns-in_err-prune_scripts : goal.returns-in_err-prune_scripts
+returns-in_err-prune_scripts g c =
+    let p = err_from_is_err_and c.from-residual.result c.from-residual.ensures.1 in rw (p.1, p.2) (λ w a. c.in_err-prune_scripts.ensures w a)
 
 pub returns : goal.returns
 returns g c =
     let r = g.S.Source.reading c.args.source.now in
     let ms = c.args.matched.now in
     λ w a.
-    let agrees = c.in-ok-prune-scripts.ensures w a in
-    let kept = chosen-retained ms c.prune-scripts.new.self (walk_scripts (lookup_beside eqb ms c.args.earliest.now) (map code_of c.args.tags.now) 0 (listed r.scripts) w) agrees in
+    let agrees = c.in_ok-prune_scripts.ensures w a in
+    let kept = chosen-retained ms c.prune_scripts.new.self (walk_scripts (lookup_beside eqb ms c.args.earliest.now) (map code_of c.args.tags.now) 0 (listed r.scripts) w) agrees in
     (agrees, pairs-kept agrees, c.choose-retained.ensures.count ∙ ap length kept, c.choose-retained.ensures.list ∙ kept)

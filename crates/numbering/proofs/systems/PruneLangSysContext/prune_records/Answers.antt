@@ -9,8 +9,8 @@ use Rattle.numbering.proofs.Walking.{records-at, records-more, step-ends, step-g
 use Rattle.numbering.proofs.systems.PruneLangSysContext.prune_records.Goals as goal
 use Rattle.numbering.specs.Sets.{lookup_beside}
 
-pub returns-in-err-prune-record : goal.returns-in-err-prune-record
-returns-in-err-prune-record g c =
+pub returns-in_err-prune_record : goal.returns-in_err-prune_record
+returns-in_err-prune_record g c =
     let r = g.S.Source.reading c.args.source.now in
     let m = lookup_beside eqb c.args.matched.now c.args.earliest.now in
     let d = lang_sys_of r (Default c.args.at) in
@@ -20,7 +20,7 @@ returns-in-err-prune-record g c =
     rw (p.1, p.2)
     (λ v a.
     let i = c.loop-k.invariant v a in
-    let full = c.in-err-prune-record.ensures i.0 i.1 in (
+    let full = c.in_err-prune_record.ensures i.0 i.1 in (
       full.0,
       step-full (record_step m d (record { script = c.args.at; lang_sys = k }) (get_or xs k no_lang_sys).table i.0) (walk_records m d c.args.at (k + 1) (drop (k + 1) xs)) _ _ (records-at m d c.args.at k xs i.0 (omega (arith, c.requires.count))) i.2 (records-more m d c.args.at (k + 1) (drop (k + 1) xs)) full.1,
     ))
@@ -34,8 +34,8 @@ returns-then-not-branch g c =
     let k = c.loop-k.k in
     λ v a.
     let i = c.loop-k.invariant v a in
-    let ended = c.in-ok-prune-record.ensures i.0 i.1 in
-    subst (Agrees c.args.matched.now c.prune-record.new.self)
+    let ended = c.in_ok-prune_record.ensures i.0 i.1 in
+    subst (Agrees c.args.matched.now c.prune_record.new.self)
     (step-ends (record_step m d (record { script = c.args.at; lang_sys = k }) (get_or xs k no_lang_sys).table i.0) (walk_records m d c.args.at (k + 1) (drop (k + 1) xs)) _ _ (records-at m d c.args.at k xs i.0 (omega (arith, c.requires.count))) i.2 (sym ended.0 ∙ c.if-not-branch.true))
     ended.1
 
@@ -48,7 +48,7 @@ loop-k-preserved g c =
     let k = c.loop-k.k in
     λ v a.
     let i = c.loop-k.invariant v a in
-    let went = c.in-ok-prune-record.ensures i.0 i.1 in
+    let went = c.in_ok-prune_record.ensures i.0 i.1 in
     let st = record_step m d (record { script = c.args.at; lang_sys = k }) (get_or xs k no_lang_sys).table i.0 in
     (st.left, went.1, step-goes st (walk_records m d c.args.at (k + 1) (drop (k + 1) xs)) _ _ (records-at m d c.args.at k xs i.0 (omega (arith, c.requires.count))) i.2 (sym went.0 ∙ c.if-not-branch.false))
 

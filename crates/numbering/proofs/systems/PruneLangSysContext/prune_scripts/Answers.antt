@@ -9,19 +9,19 @@ use Rattle.numbering.proofs.Walking.{listed-count, scripts-at, scripts-more, ste
 use Rattle.numbering.proofs.systems.PruneLangSysContext.prune_scripts.Goals as goal
 use Rattle.numbering.specs.Sets.{lookup_beside}
 
-pub returns-in-err-prune-script : goal.returns-in-err-prune-script
-returns-in-err-prune-script g c =
+pub returns-in_err-prune_script : goal.returns-in_err-prune_script
+returns-in_err-prune_script g c =
     let r = g.S.Source.reading c.args.source.now in
     let m = lookup_beside eqb c.args.matched.now c.args.earliest.now in
     let ts = map code_of c.args.tags.now in
     let xs = listed r.scripts in
     let k = c.loop-script.script in
-    let size = c.count-count.ensures ∙ (ap counted c.script-list.ensures ∙ listed-count r.scripts) in
+    let size = c.count-count.ensures ∙ (ap counted c.script_list.ensures ∙ listed-count r.scripts) in
     let p = err_from_is_err_and c.from-residual.result c.from-residual.ensures.1 in
     rw (p.1, p.2)
     (λ v a.
     let i = c.loop-script.invariant v a in
-    let full = c.in-err-prune-script.ensures i.0 i.1 in (
+    let full = c.in_err-prune_script.ensures i.0 i.1 in (
       full.0,
       step-full (script_step m ts k (get_or xs k no_script) i.0) (walk_scripts m ts (k + 1) (drop (k + 1) xs)) _ _ (scripts-at m ts k xs i.0 (omega (arith, size))) i.2 (scripts-more m ts (k + 1) (drop (k + 1) xs)) full.1,
     ))
@@ -33,11 +33,11 @@ returns-then-not-branch g c =
     let ts = map code_of c.args.tags.now in
     let xs = listed r.scripts in
     let k = c.loop-script.script in
-    let size = c.count-count.ensures ∙ (ap counted c.script-list.ensures ∙ listed-count r.scripts) in
+    let size = c.count-count.ensures ∙ (ap counted c.script_list.ensures ∙ listed-count r.scripts) in
     λ v a.
     let i = c.loop-script.invariant v a in
-    let ended = c.in-ok-prune-script.ensures i.0 i.1 in
-    subst (Agrees c.args.matched.now c.prune-script.new.self)
+    let ended = c.in_ok-prune_script.ensures i.0 i.1 in
+    subst (Agrees c.args.matched.now c.prune_script.new.self)
     (step-ends (script_step m ts k (get_or xs k no_script) i.0) (walk_scripts m ts (k + 1) (drop (k + 1) xs)) _ _ (scripts-at m ts k xs i.0 (omega (arith, size))) i.2 (sym ended.0 ∙ c.if-not-branch.true))
     ended.1
 
@@ -48,10 +48,10 @@ loop-script-preserved g c =
     let ts = map code_of c.args.tags.now in
     let xs = listed r.scripts in
     let k = c.loop-script.script in
-    let size = c.count-count.ensures ∙ (ap counted c.script-list.ensures ∙ listed-count r.scripts) in
+    let size = c.count-count.ensures ∙ (ap counted c.script_list.ensures ∙ listed-count r.scripts) in
     λ v a.
     let i = c.loop-script.invariant v a in
-    let went = c.in-ok-prune-script.ensures i.0 i.1 in
+    let went = c.in_ok-prune_script.ensures i.0 i.1 in
     let st = script_step m ts k (get_or xs k no_script) i.0 in
     (st.left, went.1, step-goes st (walk_scripts m ts (k + 1) (drop (k + 1) xs)) _ _ (scripts-at m ts k xs i.0 (omega (arith, size))) i.2 (sym went.0 ∙ c.if-not-branch.false))
 
@@ -61,7 +61,7 @@ returns g c =
     let m = lookup_beside eqb c.args.matched.now c.args.earliest.now in
     let ts = map code_of c.args.tags.now in
     let xs = listed r.scripts in
-    let size = c.count-count.ensures ∙ (ap counted c.script-list.ensures ∙ listed-count r.scripts) in
+    let size = c.count-count.ensures ∙ (ap counted c.script_list.ensures ∙ listed-count r.scripts) in
     λ v a.
     let i = c.loop-script.invariant v a in
     subst (Agrees c.args.matched.now c.loop-script.self) (sym (at_drop_all (λ l. walk_scripts m ts c.loop-script.script l i.0) xs c.loop-script.script (omega (arith, size))) ∙ i.2) i.1

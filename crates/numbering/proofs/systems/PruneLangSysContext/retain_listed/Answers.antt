@@ -11,7 +11,7 @@ pub loop-k-preserved : goal.loop-k-preserved
 loop-k-preserved g c =
     let xs = indices_of (lang_sys_of (g.S.Source.reading c.args.source.now) c.args.at) in
     let ms = c.args.matched.now in
-    elim c.match-feature-index.branch [
+    elim c.match-feature_index.branch [
       | in-Some w ↦
           subst (λ s. Marked ms (among (take (c.loop-k.k + 1) xs)) c.args.self.now s) (sym w.self-is)
           (marked_more xs c.loop-k.k w.in-Some.index (omega (arith, c.requires.count)) (nth-found xs c.loop-k.k w.in-Some.index w.in-Some.ensures) c.loop-k.invariant w.retain.ensures)
