@@ -25,7 +25,7 @@ prune_langsys-requires g c =
     let found = c.find_duplicate_features-matched.ensures in
     let mm = whole-matched r ls fs A B k j alive found.count found.front in
     let ee = whole-earliest r ls fs A B k j alive found.list in
-    record { 0 = (lend r ls fs A B j mm ee Paired (paired r ls fs c.requires.features c.requires.few_features), lend r ls fs A B j mm ee (λ ms _. length ms ≤ 512) (matched-few r ls fs c.requires.features c.requires.few_features)); tags = c.requires.scripts }
+    record { paired = (lend r ls fs A B j mm ee Paired (paired r ls fs c.requires.features c.requires.few_features), lend r ls fs A B j mm ee (λ ms _. length ms ≤ 512) (matched-few r ls fs c.requires.features c.requires.few_features)); tags = c.requires.scripts }
 
 pub returns-in_err-paired : goal.returns-in_err-paired
 returns-in_err-paired g c =
@@ -43,12 +43,12 @@ returns-in_err-paired g c =
     let ee = whole-earliest r ls fs A B k j alive found.list in
     let start = lend r ls fs A B j mm ee (λ ms _. Agrees ms c.new-context.result no_walk) (c.new-context.ensures (the_matched r ls fs) (matched-few r ls fs c.requires.features c.requires.few_features)) in
     let full = c.in_err-paired.ensures no_walk start in
-    let p = err_from_is_err_and c.from-residual.result c.from-residual.ensures.1 in
+    let p = err_from_is_err_and c.from_residual.result c.from_residual.ensures.1 in
     rw (p.1, p.2)
     (full.0, settle r ls fs A B j mm ee (λ ms es. 2048 < length (walk_scripts (lookup_beside eqb ms es) ts 0 (listed r.scripts) no_walk).pairs) full.1)
 
-pub slice-bounds-remap_feature_indices-end : goal.slice-bounds-remap_feature_indices-end
-slice-bounds-remap_feature_indices-end g c =
+pub slice_bounds-remap_feature_indices-end : goal.slice_bounds-remap_feature_indices-end
+slice_bounds-remap_feature_indices-end g c =
     let r = g.S.Source.reading c.args.source.now in
     let ls = c.args.lookups.now in
     let fs = c.args.features.now in
@@ -92,8 +92,8 @@ remap_feature_indices-own-requires g c =
     let size = ap length same in
     (subst Ascends (sym same) (retained-up r ls fs c.requires.features c.requires.few_features ts), (omega (arith, size, retained-few r ls fs c.requires.features c.requires.few_features ts, c.choose.auto.out), omega (arith, size, retained-few r ls fs c.requires.features c.requires.few_features ts)))
 
-pub invariant-of-result-3 : goal.invariant-of-result-3
-invariant-of-result-3 g c =
+pub invariant_of-result-3 : goal.invariant_of-result-3
+invariant_of-result-3 g c =
     let r = g.S.Source.reading c.args.source.now in
     let ls = c.args.lookups.now in
     let fs = c.args.features.now in
@@ -111,10 +111,10 @@ invariant-of-result-3 g c =
     let out = c.prune_langsys.new.out in
     let count = c.in_ok-paired.count in
     let walked = settle r ls fs A B j mm ee (λ ms es. Walked ms (walk_scripts (lookup_beside eqb ms es) ts 0 (listed r.scripts) no_walk) self out c.in_ok-paired.paired count) (c.in_ok-paired.ensures no_walk start) in
-    (omega (arith, walked.2, retained-few r ls fs c.requires.features c.requires.few_features ts), tt)
+    record { fits = omega (arith, walked.2, retained-few r ls fs c.requires.features c.requires.few_features ts) }
 
-pub invariant-of-result-5 : goal.invariant-of-result-5
-invariant-of-result-5 g c =
+pub invariant_of-result-5 : goal.invariant_of-result-5
+invariant_of-result-5 g c =
     let r = g.S.Source.reading c.args.source.now in
     let ls = c.args.lookups.now in
     let fs = c.args.features.now in
@@ -132,7 +132,7 @@ invariant-of-result-5 g c =
     let out = c.prune_langsys.new.out in
     let count = c.in_ok-paired.count in
     let walked = settle r ls fs A B j mm ee (λ ms es. Walked ms (walk_scripts (lookup_beside eqb ms es) ts 0 (listed r.scripts) no_walk) self out c.in_ok-paired.paired count) (c.in_ok-paired.ensures no_walk start) in
-    (omega (arith, walked.1, pairs-kept walked.0, walked.0.filled), tt)
+    record { fits = omega (arith, walked.1, pairs-kept walked.0, walked.0.filled) }
 
 pub returns : goal.returns
 returns g c =

@@ -5,8 +5,8 @@ use Rattle.numbering.proofs.Remapping.{ascends-take, turn-shared, turn-own, all-
 use Rattle.numbering.proofs.remap.remap_feature_indices.Goals as goal
 use Rattle.numbering.proofs.remap.remap_feature_indices.Goals.{in-Some, in-None}
 
-pub offset-bounds-numbers-q : goal.offset-bounds-numbers-q
-offset-bounds-numbers-q c =
+pub offset_bounds-numbers-q : goal.offset_bounds-numbers-q
+offset_bounds-numbers-q c =
     let up = ascends-take c.args.retained.now c.requires.0 (c.loop-k.k - 0) (omega arith) in
     omega (arith, (c.in-Some.ensures up).0, length-take (c.loop-k.k - 0) c.args.retained.now)
 
@@ -15,8 +15,8 @@ bounds-numbers-q c =
     let up = ascends-take c.args.retained.now c.requires.0 (c.loop-k.k - 0) (omega arith) in
     omega (arith, (c.in-Some.ensures up).0, length-take (c.loop-k.k - 0) c.args.retained.now)
 
-pub overflow-cast-numbers : goal.overflow-cast-numbers
-overflow-cast-numbers c = omega (arith, c.type-inv.retained c.loop-k.k, place-le c.args.retained.now c.requires.0 c.loop-k.k c.loop-k-test.true)
+pub overflow_cast-numbers : goal.overflow_cast-numbers
+overflow_cast-numbers c = omega (arith, c.type_inv.retained c.loop-k.k, place-le c.args.retained.now c.requires.0 c.loop-k.k c.loop-k-test.true)
 
 pub loop-k-preserved : goal.loop-k-preserved
 loop-k-preserved c =

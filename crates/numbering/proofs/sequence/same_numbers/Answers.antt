@@ -2,7 +2,7 @@ use Rattle.std.proofs.Common.{◌≡◌, ◌+◌, [], ◌∷◌, drop, sym, ap, 
 use Rattle.numbering.specs.Sets.{somes, equal_lists}
 use Rattle.numbering.proofs.Somes.{left_out, none_left, only-left, differ, agree, neither_left, other-left}
 use Rattle.numbering.proofs.sequence.same_numbers.Goals as goal
-use Rattle.numbering.proofs.sequence.same_numbers.Goals.{in-Some+in-Some-next-from+else-x-y, in-default}
+use Rattle.numbering.proofs.sequence.same_numbers.Goals.{in-Some+in-Some-next_from+else-x-y, in_default}
 
 pub returns-in_default-next_from : goal.returns-in_default-next_from
 returns-in_default-next_from g c =
@@ -19,12 +19,12 @@ loop-i-preserved g c =
     let a = g.Q.Sequence.places c.args.a.now in
     let b = g.Q.Sequence.places c.args.b.now in
     elim c.match-number_at.branch [
-      | in-Some+in-Some-next-from+else-x-y w ↦
+      | in-Some+in-Some-next_from+else-x-y w ↦
           ap (λ j. equal_lists (somes (drop (c.loop-i.i + 1) a)) (somes (drop j b))) w.j-is
-          ∙ (sym (agree a (somes (drop c.loop-i.j b)) (somes (drop w.in-Some-next-from.next b)) c.loop-i.i w.in-Some.x (sym w.in-Some.ensures) w.in-Some-next-from.y w.in-Some-next-from.ensures w.if-x-y.false) ∙ c.loop-i.invariant)
-      | in-default w ↦
+          ∙ (sym (agree a (somes (drop c.loop-i.j b)) (somes (drop w.in-Some-next_from.next b)) c.loop-i.i w.in-Some.x (sym w.in-Some.ensures) w.in-Some-next_from.y w.in-Some-next_from.ensures w.if-x-y.false) ∙ c.loop-i.invariant)
+      | in_default w ↦
           ap (λ j. equal_lists (somes (drop (c.loop-i.i + 1) a)) (somes (drop j b))) w.j-is
-          ∙ (sym (ap (λ l. equal_lists l (somes (drop c.loop-i.j b))) (left_out a c.loop-i.i (sym w.in-default.ensures))) ∙ c.loop-i.invariant)
+          ∙ (sym (ap (λ l. equal_lists l (somes (drop c.loop-i.j b))) (left_out a c.loop-i.i (sym w.in_default.ensures))) ∙ c.loop-i.invariant)
     ]
 
 pub returns-in-Some-next_from-2 : goal.returns-in-Some-next_from-2

@@ -9,7 +9,7 @@ use Rattle.numbering.specs.Sets.{lookup_beside}
 
 pub returns-in_err-prune_scripts : goal.returns-in_err-prune_scripts
 returns-in_err-prune_scripts g c =
-    let p = err_from_is_err_and c.from-residual.result c.from-residual.ensures.1 in rw (p.1, p.2) (λ w a. c.in_err-prune_scripts.ensures w a)
+    let p = err_from_is_err_and c.from_residual.result c.from_residual.ensures.1 in rw (p.1, p.2) (λ w a. c.in_err-prune_scripts.ensures w a)
 
 pub returns : goal.returns
 returns g c =

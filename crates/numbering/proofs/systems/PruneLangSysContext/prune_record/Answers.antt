@@ -13,7 +13,7 @@ returns-in_err-add_script_langsys g c =
     let r = g.S.Source.reading c.args.source.now in
     let ms = c.args.matched.now in
     let s = lang_sys_of r (Record c.args.script c.args.lang_sys) in
-    let p = err_from_is_err_and c.from-residual.result c.from-residual.ensures.1 in
+    let p = err_from_is_err_and c.from_residual.result c.from_residual.ensures.1 in
     let full = c.in_err-add_script_langsys.ensures in
     rw (p.1, p.2)
     (λ w a. (

@@ -16,7 +16,7 @@ returns-in_err-prune_record g c =
     let d = lang_sys_of r (Default c.args.at) in
     let xs = lang_sys_records (script r c.args.at) in
     let k = c.loop-k.k in
-    let p = err_from_is_err_and c.from-residual.result c.from-residual.ensures.1 in
+    let p = err_from_is_err_and c.from_residual.result c.from_residual.ensures.1 in
     rw (p.1, p.2)
     (λ v a.
     let i = c.loop-k.invariant v a in

@@ -17,7 +17,7 @@ returns-in_err-prune_script g c =
     let xs = listed r.scripts in
     let k = c.loop-script.script in
     let size = c.count-count.ensures ∙ (ap counted c.script_list.ensures ∙ listed-count r.scripts) in
-    let p = err_from_is_err_and c.from-residual.result c.from-residual.ensures.1 in
+    let p = err_from_is_err_and c.from_residual.result c.from_residual.ensures.1 in
     rw (p.1, p.2)
     (λ v a.
     let i = c.loop-script.invariant v a in

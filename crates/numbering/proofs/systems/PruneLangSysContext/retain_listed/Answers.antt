@@ -5,7 +5,7 @@ use Rattle.numbering.specs.Sets.{among}
 use Rattle.numbering.proofs.Looking.{nth-found, nth-there}
 use Rattle.numbering.proofs.Marking.{marked_more, marked_all}
 use Rattle.numbering.proofs.systems.PruneLangSysContext.retain_listed.Goals as goal
-use Rattle.numbering.proofs.systems.PruneLangSysContext.retain_listed.Goals.{in-Some, in-default}
+use Rattle.numbering.proofs.systems.PruneLangSysContext.retain_listed.Goals.{in-Some, in_default}
 
 pub loop-k-preserved : goal.loop-k-preserved
 loop-k-preserved g c =
@@ -15,7 +15,7 @@ loop-k-preserved g c =
       | in-Some w ↦
           subst (λ s. Marked ms (among (take (c.loop-k.k + 1) xs)) c.args.self.now s) (sym w.self-is)
           (marked_more xs c.loop-k.k w.in-Some.index (omega (arith, c.requires.count)) (nth-found xs c.loop-k.k w.in-Some.index w.in-Some.ensures) c.loop-k.invariant w.retain.ensures)
-      | in-default w ↦ absurd (nth-there xs c.loop-k.k (omega (arith, c.requires.count)) w.in-default.ensures)
+      | in_default w ↦ absurd (nth-there xs c.loop-k.k (omega (arith, c.requires.count)) w.in_default.ensures)
     ]
 
 pub returns : goal.returns
