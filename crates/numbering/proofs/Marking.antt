@@ -1,7 +1,7 @@
 -- Flags beside matched indices.
-use Rattle.std.proofs.Common.{◌≡◌, ℕ, zero, suc, ◌+◌, ◌<◌, ◌≤◌, Bool, true, false, cond, ◌||◌, eqb, ◌≢◌, List, [], ◌∷◌, ◌++◌, length, get_or, take, set, sym, refl, ap, ◌∙◌, subst, ⊎_elim, arith}
+use Rattle.std.proofs.Common.{◌≡◌, ℕ, ◌+◌, ◌<◌, ◌≤◌, Bool, true, false, ◌||◌, eqb, ◌≢◌, List, [], ◌∷◌, ◌++◌, length, get_or, take, set, sym, refl, ap, ◌∙◌, ⊎_elim, arith}
 use Rattle.std.proofs.lemmas.List.{get_or-set_same, get_or-set_other, take_more, take_all, length-set}
-use Rattle.std.proofs.lemmas.Bool.{eq-eqb, ne_eqb, cases_eq, cases_lt, cond-true, cond-false, eqb-false}
+use Rattle.std.proofs.lemmas.Bool.{eq-eqb, ne_eqb, cases_eq, cases_lt, cond-true, cond-false}
 use Rattle.source.specs.declared.parts.LangSys.{LangSys}
 use Rattle.source.specs.declared.parts.Standing.{Standing}
 use Rattle.source.specs.declared.parts.Standing.TheVariants.{There}
@@ -10,7 +10,7 @@ use Rattle.source.specs.Reading.{LangSysTable}
 use Rattle.source.specs.Questions.{indices_of, lang_sys_head}
 use Rattle.numbering.specs.declared.systems.PruneLangSysContext.{PruneLangSysContext}
 use Rattle.numbering.specs.Sets.{Ascends, among}
-use Rattle.numbering.specs.Systems.{names, names_of}
+use Rattle.numbering.specs.Systems.{names_of}
 use Rattle.numbering.specs.Context.{Marked}
 use Rattle.numbering.proofs.Looking.{system-there}
 

@@ -1,13 +1,13 @@
 -- Features that are alike.
 use Rattle.std.proofs.Common.{◌≡◌, ℕ, ◌+◌, ◌<◌, ◌≤◌, Bool, true, false, cond, ◌&&◌, eqb, List, [], ◌∷◌, ◌++◌, map, length, get_or, take, drop, sym, refl, ap, ◌∙◌, arith}
-use Rattle.std.proofs.lemmas.Bool.{eq-eqb, ne_eqb, and_from, eqb-true}
+use Rattle.std.proofs.lemmas.Bool.{eq-eqb, ne_eqb, and_from}
 use Rattle.std.proofs.lemmas.List.{at_drop_more, at_drop_all, append-nil, drop_more, ext_get_or, get_or-map, get_or-take, length-map, length-take-le, take-append-drop, take_more, take-take, append_assoc}
 use Rattle.source.specs.declared.parts.Standing.{Standing}
 use Rattle.source.specs.declared.parts.Standing.TheVariants.{Absent, Unreadable, There}
 use Rattle.source.specs.declared.parts.FeaturePlace.TheVariants.{Listed}
 use Rattle.source.specs.Reading.{FeatureTable, Reading}
 use Rattle.source.specs.Questions.{feature_record, feature, lookups_of}
-use Rattle.numbering.specs.Sets.{among, somes, equal_lists, if_among}
+use Rattle.numbering.specs.Sets.{somes, equal_lists, if_among}
 use Rattle.numbering.specs.Stages.{kept_lookups, alike, front, matched, earliest, earliest_of}
 use Rattle.numbering.proofs.Somes.{somes-among}
 

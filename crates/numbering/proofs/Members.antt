@@ -1,16 +1,16 @@
 -- Facts on tests over lists.
-use Rattle.std.proofs.Common.{◌≡◌, ℕ, zero, suc, ◌+◌, ◌<◌, ◌≤◌, Bool, true, false, ◌&&◌, ◌||◌, eqb, List, [], ◌∷◌, map, length, get_or, Some, None, Decides, Option, sym, refl, ap, ◌∙◌, ⊎_elim, arith}
+use Rattle.std.proofs.Common.{◌≡◌, ℕ, zero, suc, ◌<◌, Bool, true, false, ◌&&◌, eqb, List, [], ◌∷◌, map, length, get_or, Some, None, Decides, Option, sym, refl, ap, ◌∙◌, ⊎_elim, arith}
 use Rattle.std.specs.List.{slice_get}
-use Rattle.std.proofs.lemmas.Bool.{both_ways, eqb-true, eq-eqb, or_cases, or_left, or_right, or_from, or_parts, and_left, and_right}
+use Rattle.std.proofs.lemmas.Bool.{both_ways, eqb-true, eq-eqb, or_cases, or_left, or_right, or_from, and_left, and_right}
 use Rattle.keys.specs.Slots.{Held}
 use Rattle.source.specs.declared.parts.Standing.{Standing}
 use Rattle.source.specs.declared.parts.Standing.TheVariants.{Absent, Unreadable, There}
 use Rattle.source.specs.declared.parts.Substitution.{Substitution}
 use Rattle.source.specs.declared.parts.Variations.{Variations}
 use Rattle.source.specs.Standings.{mapped, counted}
-use Rattle.source.specs.Reading.{FeatureTable, SubstitutionRecord, SubstitutionTable, VariationRecord, VariationsTable}
+use Rattle.source.specs.Reading.{FeatureTable, SubstitutionRecord, SubstitutionTable, VariationsTable}
 use Rattle.source.specs.Questions.{lookups_of, index_of, no_substitution, substitution_records, substitution_head, variation_records, variations_head}
-use Rattle.numbering.specs.Stages.{is_unreadable, unread_substitution, names_alternate}
+use Rattle.numbering.specs.Stages.{is_unreadable, names_alternate}
 use Rattle.numbering.specs.Sets.{among, any, passes}
 
 pub there-same : {X : Type 0} {x y : X} → There x ≡ There y → x ≡ y

@@ -1,6 +1,6 @@
 -- The walk over scripts and language systems, and a context that follows it.
-use Rattle.std.proofs.Common.{◌≡◌, ℕ, ◌+◌, ◌<◌, ◌≤◌, min, Bool, true, false, cond, ◌||◌, ltb, List, [], ◌∷◌, ◌++◌, length, get_or, take, drop, set, Ok, Err, Option, sym, refl, ap, ◌∙◌, subst, arith}
-use Rattle.std.proofs.lemmas.List.{length_push, length-set, length-take-le, take_more_set, at_drop_more, at_drop_all}
+use Rattle.std.proofs.Common.{◌≡◌, ℕ, ◌+◌, ◌<◌, ◌≤◌, min, true, false, cond, ◌||◌, ltb, List, [], ◌∷◌, ◌++◌, length, get_or, take, drop, Ok, Err, Option, sym, refl, ap, ◌∙◌, subst, arith}
+use Rattle.std.proofs.lemmas.List.{length_push, length-set, length-take-le, take_more_set, at_drop_more}
 use Rattle.std.proofs.lemmas.Bool.{cond_both, cond-true, cond-false}
 use Rattle.keys.specs.declared.pairs.Pair.{Pair}
 use Rattle.source.specs.declared.parts.LangSys.{LangSys}
@@ -13,8 +13,8 @@ use Rattle.source.specs.Reading.{LangSysTable, LangSysRecord, ScriptTable, Scrip
 use Rattle.source.specs.Questions.{lang_sys_head, no_lang_sys, no_script, default_of, lang_sys_records}
 use Rattle.numbering.specs.declared.systems.PruneLangSysContext.{PruneLangSysContext}
 use Rattle.numbering.specs.Sets.{among}
-use Rattle.numbering.specs.Systems.{Walk, Step, visit, succeeds, collect, keep_pair, count_script, walk_on, compared, visited_step, record_step, like_default, names, names_of, walk_records, visit_default, is_empty, walk_script, counted_script, kept_step, script_step, walk_scripts}
-use Rattle.numbering.specs.Context.{Agrees, Marked, counted, visited, with_pair, Goes, Walks}
+use Rattle.numbering.specs.Systems.{Walk, Step, visit, succeeds, collect, keep_pair, count_script, walk_on, compared, record_step, like_default, names, names_of, walk_records, visit_default, is_empty, walk_script, counted_script, kept_step, script_step, walk_scripts}
+use Rattle.numbering.specs.Context.{Agrees, Marked, counted, visited, with_pair, Goes}
 use Rattle.numbering.proofs.Looking.{system-there}
 use Rattle.numbering.proofs.Members.{there-same}
 

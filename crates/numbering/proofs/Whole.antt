@@ -1,11 +1,11 @@
 -- The stages together.
-use Rattle.std.proofs.Common.{◌≡◌, ℕ, ◌-◌, ◌<◌, ◌≤◌, true, ◌&&◌, eqb, List, map, length, take, sym, ap, ◌∙◌, subst, arith}
+use Rattle.std.proofs.Common.{◌≡◌, ℕ, ◌-◌, ◌≤◌, List, map, length, take, sym, ap, ◌∙◌, subst, arith}
 use Rattle.std.proofs.lemmas.List.{length-map, length-take, take-take}
 use Rattle.std.proofs.lemmas.Bool.{and_parts}
 use Rattle.source.specs.Reading.{Reading}
 use Rattle.numbering.specs.declared.systems.PruneLangSysContext.{PruneLangSysContext}
-use Rattle.numbering.specs.Sets.{Ascends, among, lookup_beside}
-use Rattle.numbering.specs.Stages.{survivors, matched, earliest, earliest_of, alike}
+use Rattle.numbering.specs.Sets.{Ascends, among}
+use Rattle.numbering.specs.Stages.{survivors, matched, earliest_of}
 use Rattle.numbering.specs.Systems.{Walk, is_named, retained}
 use Rattle.numbering.specs.Context.{Paired, Agrees, chosen}
 use Rattle.numbering.specs.Numbers.{Settled, number, owners}

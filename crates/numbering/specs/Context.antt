@@ -10,7 +10,7 @@
 --   visited            the count of a language system joins the sum
 --   with_pair          a pair follows the kept ones
 --   chosen bs xs       the numbers that have a flag
-use Rattle.std.specs.Prelude.{◌≡◌, ℕ, ◌+◌, ◌<◌, ◌≤◌, min, Bool, true, false, cond, ◌||◌, List, [], ◌∷◌, length, take, set, Result, MatchResult, slice_index, slice_index_or, slice_set}
+use Rattle.std.specs.Prelude.{◌≡◌, ℕ, ◌+◌, ◌<◌, ◌≤◌, min, Bool, false, cond, ◌||◌, List, [], ◌∷◌, length, take, Result, MatchResult, slice_index, slice_index_or, slice_set}
 use Rattle.keys.specs.declared.pairs.Pair.{Pair}
 use Rattle.source.specs.declared.refusals.Refusal.{Refusal}
 use Rattle.source.specs.declared.refusals.Refusal.TheVariants.{TooManyPairs}

@@ -9,7 +9,7 @@
 --   lookup_beside  what stands beside the first key that equals one, in two lists
 --   Rises xs       each number of xs is before the next one
 --   Ascends xs     each number of xs is before every later one
-use Rattle.std.specs.Prelude.{ℕ, ◌+◌, ◌<◌, Bool, true, false, cond, ◌&&◌, ◌||◌, List, [], ◌∷◌, map, length, Some, None, Option, ◌==◌, slice_index}
+use Rattle.std.specs.Prelude.{ℕ, ◌+◌, ◌<◌, Bool, true, false, cond, ◌&&◌, ◌||◌, List, [], ◌∷◌, length, Some, None, Option, ◌==◌, slice_index}
 use Rattle.keys.specs.Slots.{Ascending}
 
 abbrev pub among : List ℕ → ℕ → Bool

@@ -1,4 +1,4 @@
-use Rattle.std.proofs.Common.{◌≡◌, ℕ, ◌<◌, false, get_or}
+use Rattle.std.proofs.Common.{◌≡◌, ℕ, ◌<◌, false}
 use Rattle.source.specs.Questions.{variation_record, substitution_records}
 use Rattle.numbering.specs.Sets.{any}
 use Rattle.numbering.specs.Stages.{names_alternate}

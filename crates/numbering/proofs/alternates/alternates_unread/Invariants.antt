@@ -1,4 +1,4 @@
-use Rattle.std.proofs.Common.{◌≡◌, ℕ, ◌<◌, false, get_or}
+use Rattle.std.proofs.Common.{◌≡◌, ℕ, ◌<◌, false}
 use Rattle.source.specs.Questions.{variation_record}
 use Rattle.numbering.specs.Stages.{unread_substitution}
 use Rattle.numbering.proofs.alternates.alternates_unread.Given as goal

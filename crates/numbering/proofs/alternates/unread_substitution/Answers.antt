@@ -1,6 +1,5 @@
 use Rattle.std.proofs.Common.{sym, refl, ◌∙◌, arith, below_more}
 use Rattle.std.proofs.lemmas.Bool.{or_right, or_from}
-use Rattle.source.specs.Reading.{SubstitutionRecord}
 use Rattle.source.specs.Questions.{variation_record, no_substitution, substitution_records}
 use Rattle.numbering.specs.Sets.{any}
 use Rattle.numbering.specs.Stages.{is_unreadable}

@@ -1,7 +1,6 @@
-use Rattle.std.proofs.Common.{◌≡◌, ℕ, ◌-◌, ◌≤◌, List, length, take, sym, ap, ◌∙◌, subst, arith}
+use Rattle.std.proofs.Common.{◌≡◌, ◌-◌, ◌≤◌, take, sym, ap, ◌∙◌, arith}
 use Rattle.std.proofs.lemmas.List.{length-take, take-take}
-use Rattle.source.specs.Reading.{Reading}
-use Rattle.numbering.specs.Stages.{survivors, matched, earliest_of}
+use Rattle.numbering.specs.Stages.{matched, earliest_of}
 use Rattle.numbering.proofs.joins.join_features.Goals as goal
 
 pub returns : goal.returns

@@ -1,4 +1,4 @@
-use Rattle.std.proofs.Common.{◌≡◌, ◌-◌, ◌<◌, get_or, sym, ap, ◌∙◌, subst, arith}
+use Rattle.std.proofs.Common.{◌-◌, ◌<◌, get_or, sym, ap, ◌∙◌, subst, arith}
 use Rattle.numbering.proofs.Chaining.{past-none, past_one, past-le, past_all, past-alike}
 use Rattle.numbering.proofs.matches.earliest_match.Goals as goal
 

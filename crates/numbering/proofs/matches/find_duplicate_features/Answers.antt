@@ -1,12 +1,10 @@
-use Rattle.std.proofs.Common.{◌≡◌, ℕ, ◌-◌, ◌<◌, ◌≤◌, ◌≢◌, length, get_or, take, set, sym, refl, ap, ◌∙◌, subst, arith, below_more}
+use Rattle.std.proofs.Common.{◌≡◌, ◌≢◌, length, get_or, take, sym, ap, ◌∙◌, arith, below_more}
 use Rattle.std.proofs.lemmas.List.{get_or-set_same, get_or-set_other}
 use Rattle.source.specs.declared.parts.FeaturePlace.TheVariants.{Listed}
-use Rattle.source.specs.declared.parts.Standing.TheVariants.{There}
 use Rattle.source.specs.Standings.{mapped}
 use Rattle.source.specs.Reading.{FeatureTable}
 use Rattle.source.specs.Questions.{feature}
 use Rattle.numbering.specs.Chains.{bucket_in}
-use Rattle.numbering.specs.Stages.{matched, earliest, earliest_of}
 use Rattle.numbering.proofs.Members.{there-mapped}
 use Rattle.numbering.proofs.Matching.{matched-more, matched-ends, matched-all, all-earliest}
 use Rattle.numbering.proofs.matches.find_duplicate_features.Goals as goal

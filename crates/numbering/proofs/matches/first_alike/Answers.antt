@@ -1,4 +1,4 @@
-use Rattle.std.proofs.Common.{sym, ap, ◌∙◌}
+use Rattle.std.proofs.Common.{sym, ◌∙◌}
 use Rattle.std.proofs.lemmas.List.{at_drop_all}
 use Rattle.numbering.specs.Stages.{earliest}
 use Rattle.numbering.proofs.Matching.{earliest-here, earliest-later}

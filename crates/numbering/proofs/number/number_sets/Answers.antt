@@ -1,12 +1,12 @@
 use Rattle.std.proofs.Common.{◌≡◌, ◌-◌, ◌<◌, ◌≤◌, eqb, map, length, take, sym, ap, ◌∙◌, subst, arith}
 use Rattle.std.proofs.lemmas.Result.{err_from_is_err_and}
 use Rattle.source.specs.Standings.{listed}
-use Rattle.numbering.specs.Systems.{code_of, no_walk, walk_scripts, retained}
+use Rattle.numbering.specs.Systems.{code_of, no_walk, walk_scripts}
 use Rattle.numbering.specs.Context.{Paired, Agrees}
 use Rattle.numbering.specs.Context.{Walked, chosen}
 use Rattle.numbering.specs.Numbers.{Settled, number, owners}
 use Rattle.numbering.specs.Sets.{Ascends, lookup_beside}
-use Rattle.numbering.specs.Numbering.{first_alike, the_matched, the_walk, the_retained}
+use Rattle.numbering.specs.Numbering.{first_alike, the_matched, the_retained}
 use Rattle.std.proofs.lemmas.List.{length-map}
 use Rattle.numbering.proofs.Walking.{pairs-kept}
 use Rattle.numbering.proofs.Whole.{whole-matched, whole-earliest, settle, lend, matched-few, paired, retained-up, retained-few, retained-settled, targets, whole-numbering}

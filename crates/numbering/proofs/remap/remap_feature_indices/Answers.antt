@@ -1,4 +1,4 @@
-use Rattle.std.proofs.Common.{◌≡◌, ℕ, ◌-◌, length, arith}
+use Rattle.std.proofs.Common.{◌≡◌, ◌-◌, length, arith}
 use Rattle.std.proofs.lemmas.List.{length-take}
 use Rattle.numbering.proofs.Ranks.{place-le}
 use Rattle.numbering.proofs.Remapping.{ascends-take, turn-shared, turn-own, all-numbers, all-owners}

@@ -1,4 +1,4 @@
-use Rattle.std.proofs.Common.{◌≡◌, ◌+◌, drop, sym, ap, ◌∙◌, arith}
+use Rattle.std.proofs.Common.{◌+◌, drop, sym, ap, ◌∙◌, arith}
 use Rattle.numbering.specs.Chains.{mixed}
 use Rattle.numbering.specs.Sets.{somes}
 use Rattle.numbering.proofs.Somes.{left_out, given, none_left}

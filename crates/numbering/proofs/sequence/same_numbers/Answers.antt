@@ -1,4 +1,4 @@
-use Rattle.std.proofs.Common.{◌≡◌, ◌+◌, [], ◌∷◌, drop, sym, ap, ◌∙◌, arith}
+use Rattle.std.proofs.Common.{◌+◌, drop, sym, ap, ◌∙◌, arith}
 use Rattle.numbering.specs.Sets.{somes, equal_lists}
 use Rattle.numbering.proofs.Somes.{left_out, none_left, only-left, differ, agree, neither_left, other-left}
 use Rattle.numbering.proofs.sequence.same_numbers.Goals as goal

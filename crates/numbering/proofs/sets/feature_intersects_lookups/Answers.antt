@@ -1,4 +1,4 @@
-use Rattle.std.proofs.Common.{◌≡◌, ℕ, length, sym, ap, ◌∙◌, arith, below_more}
+use Rattle.std.proofs.Common.{◌≡◌, length, sym, ap, ◌∙◌, arith, below_more}
 use Rattle.source.specs.Standings.{counted}
 use Rattle.source.specs.Questions.{feature, lookups_of}
 use Rattle.numbering.specs.Sets.{among}

@@ -1,4 +1,4 @@
-use Rattle.std.proofs.Common.{ℕ, ◌+◌, ◌<◌, ◌≤◌, get_or}
+use Rattle.std.proofs.Common.{ℕ, ◌+◌, ◌<◌, get_or}
 use Rattle.numbering.proofs.sets.is_ascending.Given as goal
 
 abbrev pub invariant-loop-i : goal.invariant-loop-i

@@ -1,4 +1,4 @@
-use Rattle.std.proofs.Common.{length, sym, refl, ◌∙◌, arith}
+use Rattle.std.proofs.Common.{refl, arith}
 use Rattle.keys.specs.declared.pairs.Pair.{Pair}
 use Rattle.std.proofs.lemmas.List.{length-replicate, get_or-replicate}
 use Rattle.numbering.proofs.systems.PruneLangSysContext.new.Goals as goal

@@ -1,9 +1,9 @@
-use Rattle.std.proofs.Common.{◌+◌, eqb, length, get_or, drop, sym, ◌∙◌, subst, arith}
+use Rattle.std.proofs.Common.{◌+◌, eqb, get_or, drop, sym, ◌∙◌, subst, arith}
 use Rattle.std.proofs.lemmas.List.{at_drop_all}
 use Rattle.std.proofs.lemmas.Result.{err_from_is_err_and}
 use Rattle.source.specs.declared.parts.LangSysPlace.TheVariants.{Default}
 use Rattle.source.specs.Questions.{script, lang_sys_of, lang_sys_records, no_lang_sys}
-use Rattle.numbering.specs.Systems.{Walk, record_step, walk_records}
+use Rattle.numbering.specs.Systems.{record_step, walk_records}
 use Rattle.numbering.specs.Context.{Agrees}
 use Rattle.numbering.proofs.Walking.{records-at, records-more, step-ends, step-goes, step-full}
 use Rattle.numbering.proofs.systems.PruneLangSysContext.prune_records.Goals as goal

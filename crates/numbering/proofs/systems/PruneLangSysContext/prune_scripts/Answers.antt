@@ -1,9 +1,9 @@
-use Rattle.std.proofs.Common.{◌+◌, eqb, map, length, get_or, drop, sym, ap, ◌∙◌, subst, arith}
+use Rattle.std.proofs.Common.{◌+◌, eqb, map, get_or, drop, sym, ap, ◌∙◌, subst, arith}
 use Rattle.std.proofs.lemmas.List.{at_drop_all}
 use Rattle.std.proofs.lemmas.Result.{err_from_is_err_and}
 use Rattle.source.specs.Questions.{no_script}
 use Rattle.source.specs.Standings.{listed, counted}
-use Rattle.numbering.specs.Systems.{Walk, code_of, script_step, walk_scripts}
+use Rattle.numbering.specs.Systems.{code_of, script_step, walk_scripts}
 use Rattle.numbering.specs.Context.{Agrees}
 use Rattle.numbering.proofs.Walking.{listed-count, scripts-at, scripts-more, step-ends, step-goes, step-full}
 use Rattle.numbering.proofs.systems.PruneLangSysContext.prune_scripts.Goals as goal

@@ -1,4 +1,4 @@
-use Rattle.std.proofs.Common.{◌+◌, length, take, sym, subst, arith}
+use Rattle.std.proofs.Common.{◌+◌, take, sym, subst, arith}
 use Rattle.source.specs.Questions.{lang_sys_of, indices_of}
 use Rattle.numbering.specs.Context.{Marked}
 use Rattle.numbering.specs.Sets.{among}
