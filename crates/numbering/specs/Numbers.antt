@@ -7,7 +7,7 @@
 --   Settled     an earliest match is its own earliest match
 --   Earliest    f gives the earliest match of each retained index, by a relation of indices that are alike
 --   Numbered    the laws of numbers ns for rs, of which n are owned
-use Rattle.std.specs.Prelude.{◌≡◌, ℕ, ◌<◌, ◌≤◌, Bool, true, false, cond, not, ◌&&◌, ltb, ◌⊎◌, List, length, filter, nat_lt, slice_index}
+use Rattle.std.specs.Prelude.{◌≡◌, ℕ, ◌<◌, ◌≤◌, Bool, true, false, cond, not, ◌&&◌, ◌⊎◌, List, length, filter, nat_lt, slice_index}
 use Rattle.numbering.specs.Sets.{among}
 
 abbrev pub shares : List ℕ → (ℕ → ℕ) → ℕ → Bool
@@ -17,7 +17,7 @@ abbrev pub owners : List ℕ → (ℕ → ℕ) → List ℕ
 owners rs f = filter (λ x. not (shares rs f x)) rs
 
 abbrev pub below : List ℕ → ℕ → ℕ
-below xs x = length (filter (λ y. ltb y x) xs)
+below xs x = length (filter (λ y. nat_lt y x) xs)
 
 abbrev pub target : List ℕ → (ℕ → ℕ) → ℕ → ℕ
 target rs f x = cond (shares rs f x) (f x) x

@@ -25,7 +25,8 @@ impl Chains {
 
     // Puts the next place into a bucket.
     pub(crate) fn add(&mut self, place: usize, bucket: usize)
-        requires { (place < 512) × (bucket < 239) }
+        requires place { place < 512 }
+        requires bucket { bucket < 239 }
         ensures { (f : ℕ → ℕ) → Chained self.old f place → f place ≡ bucket → Chained self.new f (place + 1) }
     {
         self.nexts[place] = self.heads[bucket];

@@ -87,9 +87,12 @@ fn earliest_match<S: Source>(
     bucket: usize,
 ) -> u16
     requires lookups { Ascends lookups.now }
-    requires place { (v < length survivors.now) × ((v < 512) × (v ≤ length known.now)) }
+    requires place { v < length survivors.now }
+    requires slot { v < 512 }
+    requires written { v ≤ length known.now }
     requires chains { Chained chains.now (λ p. bucket_in (S.reading source.now) lookups.now (slice_index survivors.now p)) v }
-    requires bucket { (bucket ≡ bucket_in (S.reading source.now) lookups.now (slice_index survivors.now v)) × (bucket < 239) }
+    requires bucket { bucket ≡ bucket_in (S.reading source.now) lookups.now (slice_index survivors.now v) }
+    requires below { bucket < 239 }
     requires known { (k : ℕ) → k < v → slice_index known.now k ≡ earliest (S.reading source.now) lookups.now (take k survivors.now) (slice_index survivors.now k) }
     ensures { result ≡ earliest (S.reading source.now) lookups.now (take v survivors.now) (slice_index survivors.now v) }
 {
@@ -113,7 +116,8 @@ pub(crate) fn find_duplicate_features<S: Source>(
     survivors: &[u16],
     out: &mut [u16],
 ) -> usize
-    requires ascends { (Ascends lookups.now) × (length survivors.now ≤ length out.old) }
+    requires ascends { Ascends lookups.now }
+    requires room { length survivors.now ≤ length out.old }
     requires few { length survivors.now ≤ 512 }
     ensures count { result ≤ length survivors.now }
     ensures front { take result survivors.now ≡ matched (S.reading source.now) survivors.now }
@@ -154,7 +158,8 @@ pub(crate) fn find_duplicates_by_scan<S: Source>(
     survivors: &[u16],
     out: &mut [u16],
 ) -> usize
-    requires { (Ascends lookups.now) × (length survivors.now ≤ length out.old) }
+    requires ascends { Ascends lookups.now }
+    requires room { length survivors.now ≤ length out.old }
     ensures count { result ≤ length survivors.now }
     ensures front { take result survivors.now ≡ matched (S.reading source.now) survivors.now }
     ensures list { take result out.new ≡ earliest_of (S.reading source.now) lookups.now survivors.now }

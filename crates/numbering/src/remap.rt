@@ -22,7 +22,9 @@ pub(crate) fn remap_feature_indices(
     earliest: &[u16],
     numbers: &mut [u16],
 ) -> usize
-    requires { (Ascends retained.now) × ((length retained.now ≤ length earliest.now) × (length retained.now ≤ length numbers.old)) }
+    requires ascends { Ascends retained.now }
+    requires given { length retained.now ≤ length earliest.now }
+    requires room { length retained.now ≤ length numbers.old }
     ensures within { result ≤ length retained.now }
     ensures count { (f : ℕ → ℕ) → take (length retained.now) earliest.now ≡ map f retained.now → Settled retained.now f → result ≡ length (owners retained.now f) }
     ensures list { (f : ℕ → ℕ) → take (length retained.now) earliest.now ≡ map f retained.now → Settled retained.now f → take (length retained.now) numbers.new ≡ map (number retained.now f) retained.now }

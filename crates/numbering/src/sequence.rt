@@ -37,7 +37,8 @@ fn next_from<Q: Sequence>(q: &Q, from: u16) -> Option<(u16, u16)>
 
 // Whether two sequences give the same numbers in the same order.
 pub(crate) fn same_numbers<Q: Sequence>(a: &Q, b: &Q) -> bool
-    requires { (Q.ready a.now) × (Q.ready b.now) }
+    requires first { Q.ready a.now }
+    requires second { Q.ready b.now }
     ensures { result ≡ equal_lists (somes (Q.places a.now)) (somes (Q.places b.now)) }
 {
     let mut j = 0;
@@ -60,7 +61,8 @@ pub(crate) fn same_numbers<Q: Sequence>(a: &Q, b: &Q) -> bool
 
 // The numbers of a sequence, mixed into one.
 pub(crate) fn mix_numbers<Q: Sequence>(q: &Q, start: u32) -> u32
-    requires { (Q.ready q.now) × (start < 65521) }
+    requires ready { Q.ready q.now }
+    requires below { start < 65521 }
     ensures { result ≡ mixed start (somes (Q.places q.now)) }
 {
     let mut h = start;

@@ -33,7 +33,8 @@ fn is_sized<S: Source>(source: &S, i: u16) -> bool
 
 // Whether a feature that can be read survives.
 fn is_wanted<S: Source>(source: &S, unread: bool, lookups: &[u16], i: u16) -> bool
-    requires { (Ascends lookups.now) × (unread ≡ alternates_unread (S.reading source.now)) }
+    requires ascends { Ascends lookups.now }
+    requires unread { unread ≡ alternates_unread (S.reading source.now) }
     ensures { result ≡ wanted (S.reading source.now) lookups.now i }
 {
     is_sized(source, i)
@@ -43,7 +44,8 @@ fn is_wanted<S: Source>(source: &S, unread: bool, lookups: &[u16], i: u16) -> bo
 
 // Whether a kept feature survives. One that is absent does not, and `pref` does unread.
 fn judge<S: Source>(source: &S, unread: bool, lookups: &[u16], i: u16) -> Standing<bool>
-    requires { (Ascends lookups.now) × (unread ≡ alternates_unread (S.reading source.now)) }
+    requires ascends { Ascends lookups.now }
+    requires unread { unread ≡ alternates_unread (S.reading source.now) }
     ensures { result ≡ judged (S.reading source.now) lookups.now i }
 {
     let is_pref = source.feature_tag(i).code == PREF;
@@ -68,7 +70,8 @@ pub(crate) fn prune_features<S: Source>(
     features: &[u16],
     out: &mut [u16],
 ) -> usize
-    requires { (Ascends lookups.now) × (length features.now ≤ length out.old) }
+    requires ascends { Ascends lookups.now }
+    requires room { length features.now ≤ length out.old }
     ensures count { result ≤ length features.now }
     ensures list { take result out.new ≡ survivors (S.reading source.now) lookups.now features.now }
 {

@@ -1,5 +1,5 @@
 // The language systems that are collected, and the pairs that are kept.
-ghost use Rattle.std.specs.Prelude.{◌≡◌, ℕ, ◌<◌, ◌≤◌, ltb, List, map, length, take, if◌then◌else◌, MatchResult, nat_eq, nat_lt};
+ghost use Rattle.std.specs.Prelude.{◌≡◌, ℕ, ◌<◌, ◌≤◌, List, map, length, take, if◌then◌else◌, MatchResult, nat_eq, nat_lt};
 ghost use Rattle.keys.specs.Slots.{Ascending};
 ghost use Rattle.keys.specs.Tags.{TagBefore};
 ghost use Rattle.source.specs.declared.parts.Standing.TheVariants.{There};
@@ -49,7 +49,7 @@ impl PruneLangSysContext {
 
     // Counts a script, unless the most are counted.
     fn visit_script(&mut self) -> bool
-        ensures counted { result ≡ ltb self.old.script_count 500 }
+        ensures counted { result ≡ nat_lt self.old.script_count 500 }
         ensures context { self.new ≡ (if result then counted self.old else self.old) }
     {
         let counted = self.script_count < MAX_SCRIPTS;
@@ -70,7 +70,8 @@ impl PruneLangSysContext {
 
     // Retains an index that has an earliest match.
     fn retain(&mut self, matched: &[u16], index: u16)
-        requires { (Ascends matched.now) × (length matched.now ≤ 512) }
+        requires ascends { Ascends matched.now }
+        requires few { length matched.now ≤ 512 }
         ensures { Marked matched.now (nat_eq index) self.old self.new }
     {
         match find(matched, index) {
@@ -87,7 +88,8 @@ impl PruneLangSysContext {
         at: LangSysPlace,
         count: u16,
     )
-        requires ascends { (Ascends matched.now) × (length matched.now ≤ 512) }
+        requires ascends { Ascends matched.now }
+        requires few { length matched.now ≤ 512 }
         requires count { count ≡ length (indices_of (lang_sys_of (S.reading source.now) at)) }
         ensures { Marked matched.now (among (indices_of (lang_sys_of (S.reading source.now) at))) self.old self.new }
     {
@@ -106,7 +108,8 @@ impl PruneLangSysContext {
         at: LangSysPlace,
         langsys: LangSys,
     )
-        requires ascends { (Ascends matched.now) × (length matched.now ≤ 512) }
+        requires ascends { Ascends matched.now }
+        requires few { length matched.now ≤ 512 }
         requires system { There langsys ≡ mapped lang_sys_head (lang_sys_of (S.reading source.now) at) }
         ensures { Marked matched.now (among (names_of (lang_sys_of (S.reading source.now) at))) self.old self.new }
     {
@@ -179,7 +182,8 @@ impl PruneLangSysContext {
 
     // Visits the default language system of a script.
     fn prune_default<S: Source>(&mut self, source: &S, matched: &[u16], script: u16)
-        requires { (Ascends matched.now) × (length matched.now ≤ 512) }
+        requires ascends { Ascends matched.now }
+        requires few { length matched.now ≤ 512 }
         ensures { (w : Walk) → Agrees matched.now self.old w → Agrees matched.now self.new (visit_default (lang_sys_of (S.reading source.now) (Default script)) w) }
     {
         let at = LangSysPlace::Default { script };
@@ -259,7 +263,8 @@ impl PruneLangSysContext {
 
     // Writes the numbers that have a flag, and answers how many they are.
     pub(crate) fn choose(&self, from: &[u16], out: &mut [u16]) -> usize
-        requires { (length from.now ≤ 512) × (length from.now ≤ length out.old) }
+        requires few { length from.now ≤ 512 }
+        requires room { length from.now ≤ length out.old }
         ensures count { result ≡ length (chosen self.now.named from.now) }
         ensures list { take result out.new ≡ chosen self.now.named from.now }
     {
@@ -283,7 +288,8 @@ impl PruneLangSysContext {
         earliest: &[u16],
         out: &mut [u16],
     ) -> Result<(usize, usize), Refusal>
-        requires paired { (Paired matched.now earliest.now) × (length matched.now ≤ length out.old) }
+        requires paired { Paired matched.now earliest.now }
+        requires room { length matched.now ≤ length out.old }
         requires tags { Ascending TagBefore tags.now }
         ensures { (w : Walk) → Agrees matched.now self.old w → Pruned matched.now (walk_scripts (lookup_beside nat_eq matched.now earliest.now) (map code_of tags.now) 0 (listed (S.reading source.now).scripts) w) self.new out.new result }
     {

@@ -5,8 +5,8 @@ use Rattle.numbering.proofs.matches.earliest_match.Goals as goal
 pub loop-at-init : goal.loop-at-init
 loop-at-init g c =
     let k = c.args.chains.now in
-    let e = c.requires.bucket.0 in
-    past-none (g.S.Source.reading c.args.source.now) c.args.lookups.now c.args.survivors.now c.args.v k c.requires.chains _ (subst (λ b. b < 239) e c.requires.bucket.1) (ap (λ b. get_or k.heads b 0) e)
+    let e = c.requires.bucket in
+    past-none (g.S.Source.reading c.args.source.now) c.args.lookups.now c.args.survivors.now c.args.v k c.requires.chains _ (subst (λ b. b < 239) e c.requires.below) (ap (λ b. get_or k.heads b 0) e)
 
 pub returns-then-is_alike : goal.returns-then-is_alike
 returns-then-is_alike g c =

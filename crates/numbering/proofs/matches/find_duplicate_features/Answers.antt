@@ -21,7 +21,7 @@ returns-in_default g c =
     }
 
 pub earliest_match-requires : goal.earliest_match-requires
-earliest_match-requires g c = record { lookups = c.requires.ascends.0; place = (c.loop-v-test.true, (omega arith, omega arith)); chains = c.loop-v.invariant.2; bucket = (c.bucket_of-bucket.ensures.value, c.bucket_of-bucket.ensures.below); known = c.loop-v.invariant.1 }
+earliest_match-requires g c = record { lookups = c.requires.ascends; place = c.loop-v-test.true; slot = omega arith; written = omega arith; chains = c.loop-v.invariant.2; bucket = c.bucket_of-bucket.ensures.value; below = c.bucket_of-bucket.ensures.below; known = c.loop-v.invariant.1 }
 
 pub loop-v-preserved : goal.loop-v-preserved
 loop-v-preserved g c =

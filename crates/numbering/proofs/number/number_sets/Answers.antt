@@ -25,7 +25,7 @@ prune_langsys-requires g c =
     let found = c.find_duplicate_features-matched.ensures in
     let mm = whole-matched r ls fs A B k j alive found.count found.front in
     let ee = whole-earliest r ls fs A B k j alive found.list in
-    record { paired = (lend r ls fs A B j mm ee Paired (paired r ls fs c.requires.features c.requires.few_features), lend r ls fs A B j mm ee (λ ms _. length ms ≤ 512) (matched-few r ls fs c.requires.features c.requires.few_features)); tags = c.requires.scripts }
+    record { paired = lend r ls fs A B j mm ee Paired (paired r ls fs c.requires.features c.requires.few_features); room = lend r ls fs A B j mm ee (λ ms _. length ms ≤ 512) (matched-few r ls fs c.requires.features c.requires.few_features); tags = c.requires.scripts }
 
 pub returns-in_err-paired : goal.returns-in_err-paired
 returns-in_err-paired g c =
@@ -90,7 +90,7 @@ remap_feature_indices-own-requires g c =
     let rest : c.in_ok-paired.count - 0 ≡ c.in_ok-paired.count = omega arith in
     let same = ap (λ n. take n out) rest ∙ walked.3 in
     let size = ap length same in
-    (subst Ascends (sym same) (retained-up r ls fs c.requires.features c.requires.few_features ts), (omega (arith, size, retained-few r ls fs c.requires.features c.requires.few_features ts, c.choose.auto.out), omega (arith, size, retained-few r ls fs c.requires.features c.requires.few_features ts)))
+    record { ascends = subst Ascends (sym same) (retained-up r ls fs c.requires.features c.requires.few_features ts); given = omega (arith, size, retained-few r ls fs c.requires.features c.requires.few_features ts, c.choose.auto.out); room = omega (arith, size, retained-few r ls fs c.requires.features c.requires.few_features ts) }
 
 pub invariant_of-result-3 : goal.invariant_of-result-3
 invariant_of-result-3 g c =

@@ -7,16 +7,16 @@ use Rattle.numbering.proofs.remap.remap_feature_indices.Goals.{in-Some, in-None}
 
 pub offset_bounds-numbers-q : goal.offset_bounds-numbers-q
 offset_bounds-numbers-q c =
-    let up = ascends-take c.args.retained.now c.requires.0 (c.loop-k.k - 0) (omega arith) in
+    let up = ascends-take c.args.retained.now c.requires.ascends (c.loop-k.k - 0) (omega arith) in
     omega (arith, (c.in-Some.ensures up).0, length-take (c.loop-k.k - 0) c.args.retained.now)
 
 pub bounds-numbers-q : goal.bounds-numbers-q
 bounds-numbers-q c =
-    let up = ascends-take c.args.retained.now c.requires.0 (c.loop-k.k - 0) (omega arith) in
+    let up = ascends-take c.args.retained.now c.requires.ascends (c.loop-k.k - 0) (omega arith) in
     omega (arith, (c.in-Some.ensures up).0, length-take (c.loop-k.k - 0) c.args.retained.now)
 
 pub overflow_cast-numbers : goal.overflow_cast-numbers
-overflow_cast-numbers c = omega (arith, c.type_inv.retained c.loop-k.k, place-le c.args.retained.now c.requires.0 c.loop-k.k c.loop-k-test.true)
+overflow_cast-numbers c = omega (arith, c.type_inv.retained c.loop-k.k, place-le c.args.retained.now c.requires.ascends c.loop-k.k c.loop-k-test.true)
 
 pub loop-k-preserved : goal.loop-k-preserved
 loop-k-preserved c =
@@ -26,10 +26,10 @@ loop-k-preserved c =
     let ns = c.loop-k.numbers in
     let k = c.loop-k.k in
     let own = c.loop-k.own in
-    let up = ascends-take rs c.requires.0 (c.loop-k.k - 0) (omega arith) in
+    let up = ascends-take rs c.requires.ascends (c.loop-k.k - 0) (omega arith) in
     elim c.match-place_in.branch [
-      | in-Some w ↦ rw (w.numbers-is, w.own-is) (turn-shared rs es old ns k own c.requires.0 c.loop-k-test.true (omega arith) c.loop-k.invariant w.in-Some.q (w.in-Some.ensures up))
-      | in-None w ↦ rw (w.numbers-is, w.own-is) (turn-own rs es old ns k own c.requires.0 c.loop-k-test.true (omega arith) c.loop-k.invariant (w.in-None.ensures up))
+      | in-Some w ↦ rw (w.numbers-is, w.own-is) (turn-shared rs es old ns k own c.requires.ascends c.loop-k-test.true (omega arith) c.loop-k.invariant w.in-Some.q (w.in-Some.ensures up))
+      | in-None w ↦ rw (w.numbers-is, w.own-is) (turn-own rs es old ns k own c.requires.ascends c.loop-k-test.true (omega arith) c.loop-k.invariant (w.in-None.ensures up))
     ]
 
 pub returns : goal.returns

@@ -13,12 +13,12 @@ loop-p-preserved c =
     let n = c.loop-p.n in
     let rest = chosen (drop (p + 1) bs) (drop (p + 1) xs) in
     let size : length c.args.self.now.named ≡ 512 = search rules in
-    let at = chosen_at bs xs p (omega (arith, c.requires.0)) c.loop-p-test.true in
+    let at = chosen_at bs xs p (omega (arith, c.requires.few)) c.loop-p-test.true in
     elim c.if-self-p.branch [
       | then-self-p w ↦ (
         omega (arith, w.n-is),
         ap (λ k. take k c.if-self-p.out ++ rest) w.n-is ∙ (ap (λ o. take (n + 1) o ++ rest) w.out-is
-            ∙ written-more c.loop-p.out n (get_or xs p 0) rest (chosen bs xs) (omega (arith, c.requires.1)) (sym (ap (λ l. take n c.loop-p.out ++ l) (at ∙ ap (λ b. cond b (get_or xs p 0 ∷ rest) rest) w.if-self-p.true)) ∙ c.loop-p.invariant.1)),
+            ∙ written-more c.loop-p.out n (get_or xs p 0) rest (chosen bs xs) (omega (arith, c.requires.room)) (sym (ap (λ l. take n c.loop-p.out ++ l) (at ∙ ap (λ b. cond b (get_or xs p 0 ∷ rest) rest) w.if-self-p.true)) ∙ c.loop-p.invariant.1)),
       )
       | else-self-p w ↦ (
         omega (arith, w.n-is),
@@ -33,4 +33,4 @@ returns c =
     let xs = c.args.from.now in
     let front = take c.loop-p.n c.loop-p.out in
     let list = sym (append-nil front) ∙ (sym (ap (λ l. front ++ l) (chosen_none bs xs c.loop-p.p c.loop-p-test.false)) ∙ c.loop-p.invariant.1) in
-    record { count = sym (length-take-le c.loop-p.n c.loop-p.out (omega (arith, c.requires.1))) ∙ ap length list; list = list }
+    record { count = sym (length-take-le c.loop-p.n c.loop-p.out (omega (arith, c.requires.room))) ∙ ap length list; list = list }
