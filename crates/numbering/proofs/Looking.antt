@@ -63,34 +63,36 @@ tag-among ts x = (λ e. codes-held ts x ((among-decides (map code_of ts) x.code)
 -- a record and the default of its script
 
 module _ (m : ℕ → Option ℕ) where
-  pub unlike-absent : (a d : Standing LangSysTable) → ((l : LangSys) → mapped lang_sys_head a ≡ There l → ⊥) → false ≡ like_default m a d
-  unlike-absent Absent d n = refl
-  unlike-absent Unreadable d n = refl
-  unlike-absent (There t) d n = absurd (n (lang_sys_head t) refl)
+  pub unlike_where_absent : (a d : Standing LangSysTable) → ((l : LangSys) → mapped lang_sys_head a ≡ There l → ⊥) → like_default m a d ≡ false
+  unlike_where_absent Absent d n = refl
+  unlike_where_absent Unreadable d n = refl
+  unlike_where_absent (There t) d n = absurd (n (lang_sys_head t) refl)
 
-  pub unlike-no-default : (a d : Standing LangSysTable) → ((l : LangSys) → mapped lang_sys_head d ≡ There l → ⊥) → false ≡ like_default m a d
-  unlike-no-default Absent d n = refl
-  unlike-no-default Unreadable d n = refl
-  unlike-no-default (There a) Absent n = refl
-  unlike-no-default (There a) Unreadable n = refl
-  unlike-no-default (There a) (There t) n = absurd (n (lang_sys_head t) refl)
+  pub unlike_without_default : (a d : Standing LangSysTable) → ((l : LangSys) → mapped lang_sys_head d ≡ There l → ⊥) → like_default m a d ≡ false
+  unlike_without_default Absent d n = refl
+  unlike_without_default Unreadable d n = refl
+  unlike_without_default (There a) Absent n = refl
+  unlike_without_default (There a) Unreadable n = refl
+  unlike_without_default (There a) (There t) n = absurd (n (lang_sys_head t) refl)
 
-  pub unlike-required : (a d : Standing LangSysTable) (x y : LangSys) → There x ≡ mapped lang_sys_head a → There y ≡ mapped lang_sys_head d → (x.required ≡ y.required → ⊥) → false ≡ like_default m a d
-  unlike-required a d x y ea ed n =
+  pub unlike_by_required : (a d : Standing LangSysTable) (x y : LangSys) → There x ≡ mapped lang_sys_head a → There y ≡ mapped lang_sys_head d → (x.required ≡ y.required → ⊥) → like_default m a d ≡ false
+  unlike_by_required a d x y ea ed n =
       let s = system-there a x ea in
       let t = system-there d y ed in
-      sym (ap (λ u. like_default m u d) s.1 ∙ (ap (like_default m (There s.0)) t.1
+      ap (λ u. like_default m u d) s.1 ∙ (ap (like_default m (There s.0)) t.1
       ∙ and_left (eqb s.0.required t.0.required) (equal_lists (matches m s.0) (matches m t.0))
-      (ne_eqb s.0.required t.0.required (λ e. n (ap (λ u. u.required) s.2 ∙ (e ∙ sym (ap (λ u. u.required) t.2)))))))
+      (ne_eqb s.0.required t.0.required (λ e. n (ap (λ u. u.required) s.2 ∙ (e ∙ sym (ap (λ u. u.required) t.2))))))
 
-  pub like-by : (a d : Standing LangSysTable) (x y : LangSys) (b : Bool) → There x ≡ mapped lang_sys_head a → There y ≡ mapped lang_sys_head d → x.required ≡ y.required → b ≡ equal_lists (somes (map m (indices_of a))) (somes (map m (indices_of d))) → b ≡ like_default m a d
-  like-by a d x y b ea ed q e =
+  pub like_by_matches : (a d : Standing LangSysTable) (x y : LangSys) → There x ≡ mapped lang_sys_head a → There y ≡ mapped lang_sys_head d → x.required ≡ y.required → like_default m a d ≡ equal_lists (somes (map m (indices_of a))) (somes (map m (indices_of d)))
+  like_by_matches a d x y ea ed q =
       let s = system-there a x ea in
       let t = system-there d y ed in
-      e ∙ (ap (λ u. equal_lists (somes (map m (indices_of u))) (somes (map m (indices_of d)))) s.1
+      sym (ap (λ u. equal_lists (somes (map m (indices_of u))) (somes (map m (indices_of d)))) s.1
       ∙ (ap (λ u. equal_lists (matches m s.0) (somes (map m (indices_of u)))) t.1
       ∙ (sym (ap (λ z. z && equal_lists (matches m s.0) (matches m t.0)) (eq-eqb s.0.required t.0.required (sym (ap (λ u. u.required) s.2) ∙ (q ∙ ap (λ u. u.required) t.2))))
       ∙ sym (ap (λ u. like_default m u d) s.1 ∙ ap (like_default m (There s.0)) t.1))))
+
+pub ruleset like_defaults = (unlike_where_absent, unlike_without_default, unlike_by_required, like_by_matches)
 
 -- the number at a place
 

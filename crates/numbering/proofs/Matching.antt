@@ -24,15 +24,16 @@ front-some : {X : Type 0} (s : Standing X) (i : ℕ) (rest : List ℕ) (x : X) �
 front-some s i rest x e = ap (λ t. front t i rest) e
 
 module _ (r : Reading) (ls : List ℕ) where
-  pub alike-by : (j i tj ti : ℕ) (b : Bool) → tj ≡ (feature_record r j).tag → ti ≡ (feature_record r i).tag → tj ≡ ti → b ≡ equal_lists (somes (map (if_among ls) (lookups_of (feature r (Listed j))))) (somes (map (if_among ls) (lookups_of (feature r (Listed i))))) → b ≡ alike r ls j i
-  alike-by j i tj ti b ej ei e h =
-      h ∙ (ap (λ xs. equal_lists xs (somes (map (if_among ls) (lookups_of (feature r (Listed i)))))) (somes-among ls (lookups_of (feature r (Listed j))))
+  -- kept lookups decide between features with one tag
+  pub alike_by_lookups : (j i : ℕ) → (feature_record r j).tag ≡ (feature_record r i).tag → alike r ls j i ≡ equal_lists (somes (map (if_among ls) (lookups_of (feature r (Listed j))))) (somes (map (if_among ls) (lookups_of (feature r (Listed i)))))
+  alike_by_lookups j i e =
+      sym (ap (λ xs. equal_lists xs (somes (map (if_among ls) (lookups_of (feature r (Listed i)))))) (somes-among ls (lookups_of (feature r (Listed j))))
       ∙ (ap (equal_lists (kept_lookups r ls j)) (somes-among ls (lookups_of (feature r (Listed i))))
-      ∙ sym (ap (λ t. t && equal_lists (kept_lookups r ls j) (kept_lookups r ls i)) (eq-eqb (feature_record r j).tag (feature_record r i).tag (sym ej ∙ (e ∙ ei))))))
+      ∙ sym (ap (λ t. t && equal_lists (kept_lookups r ls j) (kept_lookups r ls i)) (eq-eqb (feature_record r j).tag (feature_record r i).tag e))))
 
-  pub unlike-tags : (j i tj ti : ℕ) → tj ≡ (feature_record r j).tag → ti ≡ (feature_record r i).tag → (tj ≡ ti → ⊥) → false ≡ alike r ls j i
-  unlike-tags j i tj ti ej ei n =
-      sym (ap (λ t. t && equal_lists (kept_lookups r ls j) (kept_lookups r ls i)) (ne_eqb (feature_record r j).tag (feature_record r i).tag (λ e. n (ej ∙ (e ∙ sym ei)))))
+  pub unlike_by_tags : (j i : ℕ) → ((feature_record r j).tag ≡ (feature_record r i).tag → ⊥) → alike r ls j i ≡ false
+  unlike_by_tags j i n =
+      ap (λ t. t && equal_lists (kept_lookups r ls j) (kept_lookups r ls i)) (ne_eqb (feature_record r j).tag (feature_record r i).tag n)
 
   earliest-at : (js : List ℕ) (k i : ℕ) → k < length js → earliest r ls (drop k js) i ≡ cond (alike r ls (get_or js k 0) i) (get_or js k 0) (earliest r ls (drop (k + 1) js) i)
   earliest-at js k i h = at_drop_more (λ xs. earliest r ls xs i) js k 0 h

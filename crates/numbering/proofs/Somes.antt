@@ -48,6 +48,8 @@ neither_left xs ys e h = ap (λ l. equal_lists l ys) e ∙ ap (equal_lists []) h
 pub other-left : (xs ys : List ℕ) {y : ℕ} {rest : List ℕ} → xs ≡ [] → ys ≡ y ∷ rest → equal_lists xs ys ≡ false
 other-left xs ys e h = ap (λ l. equal_lists l ys) e ∙ ap (equal_lists []) h
 
+pub ruleset turns = (left_out, given, none_left, only-left, differ, agree, neither_left, other-left)
+
 -- a list under a function that leaves some out
 pub place_of : (f : ℕ → Option ℕ) (xs : List ℕ) (k : ℕ) → get_or (map f xs) k None ≡ place_by f (slice_get xs k)
 place_of f [] k = refl

@@ -51,6 +51,7 @@ impl<'a, 'b, 'c, S: Source> Sequence for MatchedIndices<'a, 'b, 'c, S> {
 }
 
 // Whether a language system record equals the default of its script.
+#[tactic(auto, using(crate::proofs::Looking::like_defaults))]
 pub(crate) fn is_like_default<S: Source>(
     source: &S,
     matched: &[u16],

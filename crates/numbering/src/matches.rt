@@ -40,6 +40,7 @@ impl<'a, 'b, S: Source> Sequence for KeptLookups<'a, 'b, S> {
 }
 
 // Whether two listed features have equal tags and equal kept lookups.
+#[tactic(auto, using(crate::proofs::Matching::alike_by_lookups, crate::proofs::Matching::unlike_by_tags))]
 fn is_alike<S: Source>(source: &S, lookups: &[u16], j: u16, i: u16) -> bool
     requires { Ascends lookups.now }
     ensures { result ≡ alike (S.reading source.now) lookups.now j i }

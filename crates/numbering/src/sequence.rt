@@ -36,6 +36,7 @@ fn next_from<Q: Sequence>(q: &Q, from: u16) -> Option<(u16, u16)>
 }
 
 // Whether two sequences give the same numbers in the same order.
+#[tactic(auto, using(crate::proofs::Somes::turns))]
 pub(crate) fn same_numbers<Q: Sequence>(a: &Q, b: &Q) -> bool
     requires first { Q.ready a.now }
     requires second { Q.ready b.now }
