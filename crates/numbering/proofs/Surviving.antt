@@ -5,6 +5,7 @@ use Rattle.source.specs.declared.parts.Standing.{Standing}
 use Rattle.source.specs.declared.parts.Standing.TheVariants.{Absent, Unreadable, There}
 use Rattle.source.specs.Reading.{Reading}
 use Rattle.numbering.specs.Stages.{judged, surviving, survivors}
+use Rattle.numbering.proofs.Growing.{written-more}
 
 surviving-none : (i : ℕ) (s : Standing Bool) (rest : List ℕ) → ((b : Bool) → s ≡ There b → ⊥) → surviving i s rest ≡ []
 surviving-none i Absent rest h = refl
@@ -23,3 +24,5 @@ module _ (r : Reading) (ls fs : List ℕ) (j : ℕ) (in' : j < length fs) where
 
   pub stops : ((b : Bool) → judged r ls (get_or fs j 0) ≡ There b → ⊥) → survivors r ls (drop j fs) ≡ []
   stops h = step ∙ surviving-none (get_or fs j 0) (judged r ls (get_or fs j 0)) (survivors r ls (drop (j + 1) fs)) h
+
+pub ruleset survival = (survives, goes, stops, written-more)

@@ -22,6 +22,7 @@ pub(crate) trait Sequence {
 }
 
 // The next number from a place on, with the place after it.
+#[tactic(auto, using(crate::proofs::Somes::turns))]
 fn next_from<Q: Sequence>(q: &Q, from: u16) -> Option<(u16, u16)>
     requires { Q.ready q.now }
     ensures { MatchOption result (somes (drop from (Q.places q.now)) ≡ []) (λ p. somes (drop from (Q.places q.now)) ≡ p.0 ∷ somes (drop p.1 (Q.places q.now))) }
@@ -61,6 +62,7 @@ pub(crate) fn same_numbers<Q: Sequence>(a: &Q, b: &Q) -> bool
 }
 
 // The numbers of a sequence, mixed into one.
+#[tactic(auto, using(crate::proofs::Somes::turns))]
 pub(crate) fn mix_numbers<Q: Sequence>(q: &Q, start: u32) -> u32
     requires ready { Q.ready q.now }
     requires below { start < 65521 }

@@ -64,6 +64,7 @@ fn judge<S: Source>(source: &S, unread: bool, lookups: &[u16], i: u16) -> Standi
 
 // Writes the kept features that survive, ascending, and answers how many there are. The first that cannot be read
 // ends the stage with what survived so far.
+#[tactic(auto, using(crate::proofs::Surviving::survival))]
 pub(crate) fn prune_features<S: Source>(
     source: &S,
     lookups: &[u16],
