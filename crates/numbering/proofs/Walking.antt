@@ -94,6 +94,8 @@ module _ {ms : List ℕ} (m : ℕ → Option ℕ) (d : Standing LangSysTable) (p
   record-full c'' h =
       subst (λ x. Goes ms x c'' (Err TooManyPairs)) (sym step) (refl, omega (arith, pairs-kept done, length_push w.pairs p))
 
+pub ruleset collected_records = (record-kept, record-full)
+
 -- a script that is walked
 
 pub script-walked : (m : ℕ → Option ℕ) (s : ℕ) (d : Standing LangSysTable) (xs : List LangSysRecord) (w : Walk) → is_empty xs d ≡ false → ltb w.scripts 500 ≡ true → counted_script m s d xs w ≡ walk_script m s d xs w

@@ -132,6 +132,7 @@ impl PruneLangSysContext {
     }
 
     // Visits a language system record, and answers whether the records after it are walked.
+    #[tactic(auto, using(crate::proofs::Walking::collected_records))]
     fn prune_record<S: Source>(
         &mut self,
         source: &S,
