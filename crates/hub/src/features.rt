@@ -12,7 +12,7 @@ pub(crate) fn feature_name<S: Source>(
     source: &S,
     index: u16,
 ) -> Result<String, AllocError>
-    ensures { IfOk result (λ t. string_bytes t ≡ feature_text (reading source.now) index) }
+    ensures { IfOk result (λ t. string_bytes t ≡ feature_text (S.reading source.now) index) }
 {
     if index < source.feature_list().count() {
         let tag = TagText(source.feature_tag(index).code);

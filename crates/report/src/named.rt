@@ -12,7 +12,7 @@ use std::alloc::{AllocError, Global};
 
 // Each feature of the list.
 pub(crate) fn all_features<S: Source>(heap: Global, source: &S) -> Result<Vec<u16>, AllocError>
-    ensures { IfOk result (λ v. Ascends v.items × Filled [] v.items 0 (feature_count (reading source.now))) }
+    ensures { IfOk result (λ v. Ascends v.items × Filled [] v.items 0 (feature_count (S.reading source.now))) }
 {
     let mut set = Vec::new(heap);
     for index in 0..source.feature_list().count() {

@@ -39,7 +39,7 @@ fn write_told<S: Source>(
 // The numbering of kept sets.
 fn number_kept<S: Source>(source: &S, sets: &KeptSets) -> Result<Numbering, Refusal>
     requires { Kept sets.now.lookups.items sets.now.features.items sets.now.scripts.items }
-    ensures { Answered (reading source.now) sets.now.lookups.items sets.now.features.items (map code_of sets.now.scripts.items) result }
+    ensures { Answered (S.reading source.now) sets.now.lookups.items sets.now.features.items (map code_of sets.now.scripts.items) result }
 {
     match number_features(
         source,
@@ -49,7 +49,7 @@ fn number_kept<S: Source>(source: &S, sets: &KeptSets) -> Result<Numbering, Refu
     ) {
         Ok(numbering) => Ok(numbering),
         Err(why) => match why {
-            Unnumbered::NotKeptSets => unreachable(),
+            Unnumbered::NotKeptSets => unreachable!(),
             Unnumbered::Refused(refusal) => Err(refusal),
         },
     }
