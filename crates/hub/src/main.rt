@@ -13,6 +13,7 @@ use console::{Command, Request, SetWords, read_request};
 use source::Kind;
 use std::env;
 use std::fmt::Display;
+use std::process::ExitCode;
 use troubles::{Fault, Halt, Trouble};
 use work::{Task, work_builtin, work_file};
 
@@ -34,14 +35,21 @@ Each may be 'all' or 'none'. At most 1024 lookups, 512 features and 64 script ta
 #[derive(Debug, Drop)]
 struct Failed;
 
-fn main(rt: HostRuntime) -> Result<(), Failed> {
-    match env::args(&rt) {
+fn main(rt: HostRuntime) -> ExitCode {
+    match start(&rt) {
+        Ok(()) => ExitCode::SUCCESS,
+        Err(_) => ExitCode::FAILURE,
+    }
+}
+
+fn start(rt: &HostRuntime) -> Result<(), Failed> {
+    match env::args(rt) {
         Ok(args) => match args.skip(1).collect::<Vec<String>>(rt.alloc()) {
-            Ok(words) => run(&rt, words.as_slice()),
-            Err(_) => fail(&rt, Halt::Memory),
+            Ok(words) => run(rt, words.as_slice()),
+            Err(_) => fail(rt, Halt::Memory),
         },
         Err(_) => fail(
-            &rt,
+            rt,
             "the words after the program's name are not text; write them in UTF-8",
         ),
     }

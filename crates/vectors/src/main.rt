@@ -12,6 +12,7 @@ use replay::{Tally, replay};
 use std::alloc::AllocError;
 use std::fmt::Display;
 use std::io::{BufRead, BufReader};
+use std::process::ExitCode;
 use std::{env, fs, io};
 
 const RECORDED: &str = "numbers.txt";
@@ -39,13 +40,20 @@ impl From<io::Error> for Halt {
     }
 }
 
-fn main(rt: HostRuntime) -> Result<(), Failed> {
-    match env::args(&rt) {
+fn main(rt: HostRuntime) -> ExitCode {
+    match start(&rt) {
+        Ok(()) => ExitCode::SUCCESS,
+        Err(_) => ExitCode::FAILURE,
+    }
+}
+
+fn start(rt: &HostRuntime) -> Result<(), Failed> {
+    match env::args(rt) {
         Ok(args) => match args.skip(1).collect::<Vec<String>>(rt.alloc()) {
-            Ok(words) => run(&rt, words.as_slice()),
-            Err(_) => fail(&rt, "there is not enough memory"),
+            Ok(words) => run(rt, words.as_slice()),
+            Err(_) => fail(rt, "there is not enough memory"),
         },
-        Err(_) => fail(&rt, "the words after the program's name are not text"),
+        Err(_) => fail(rt, "the words after the program's name are not text"),
     }
 }
 
