@@ -5,7 +5,7 @@ use Rattle.rows.proofs.ranges.range_at.Goals.{else-within-via-then-within+else-k
 
 pub returns-then-k-count : goal.returns-then-k-count
 returns-then-k-count g c =
-    c.row-at.ensures
+    c.row_at.ensures
     ∙ nth_in c.args.rows.now c.args.first c.args.count c.args.k c.if-within.ensures c.if-k-count.true
 
 pub returns-else-within : goal.returns-else-within

@@ -10,5 +10,5 @@ pub returns-in-There : goal.returns-in-There
 returns-in-There c =
     let pool = c.args.self.now.pool.now in
     let l = c.in-There.l in
-    let read : c.range-at.result ≡ slice_get (listed (ranged pool l.first l.count)) c.args.k = search rules in
+    let read : c.range_at.result ≡ slice_get (listed (ranged pool l.first l.count)) c.args.k = search rules in
     read ∙ ap (λ xs. slice_get xs c.args.k) (sym (lang_sys_of-indices pool l) ∙ ap indices_of c.in-There.ensures)

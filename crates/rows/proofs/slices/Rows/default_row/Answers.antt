@@ -7,7 +7,7 @@ use Rattle.rows.proofs.slices.Rows.default_row.Goals as goal
 
 pub returns-then-within : goal.returns-then-within
 returns-then-within c =
-    ap (bound (read_lang_sys c.args.self.now.pool.now)) c.numbered-row.ensures
+    ap (bound (read_lang_sys c.args.self.now.pool.now)) c.numbered_row.ensures
     ∙ (sym (default-in _ _ c.in-Some.s c.if-within.ensures)
     ∙ ap (λ (t : ScriptRecord). default_of t.table) c.in-Some.ensures)
 

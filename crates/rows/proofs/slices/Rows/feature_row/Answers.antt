@@ -3,5 +3,5 @@ use Rattle.rows.proofs.slices.Rows.feature_row.Goals as goal
 
 pub returns : goal.returns
 returns c =
-    row_of _ _ c.args.self.now.features.now c.capped.result.now c.args.at c.row-at.result c.row-at.ensures
+    row_of _ _ c.args.self.now.features.now c.capped.result.now c.args.at c.row_at.result c.row_at.ensures
     c.capped.ensures.cut

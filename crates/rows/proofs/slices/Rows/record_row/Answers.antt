@@ -11,4 +11,4 @@ returns-in-Some c =
     (ap (λ rs. get_or rs c.args.k no_lang_sys)
     (ap (λ (t : ScriptRecord). lang_sys_records t.table) (sym c.in-Some.ensures)
     ∙ script-records c.args.self.now.pool.now c.args.self.now.systems.now c.in-Some.s)
-    ∙ getD-value_by _ _ _ c.args.k _ c.range-at.ensures)
+    ∙ getD-value_by _ _ _ c.args.k _ c.range_at.ensures)
