@@ -3,8 +3,8 @@
 --   numbered     the row of that number, unreadable past the rows; 65,535 is no row
 --   bound        a part under a reading that has a standing of its own
 --   value_by     the value under a function, or what stands for none
---   ..-table     a table with these numbers or rows
---   read-..      how a row's table stands, and read-..-record with the row's tag
+--   .._table     a table with these numbers or rows
+--   read_..      how a row's table stands, and read_.._record with the row's tag
 --   read_rows    the whole table
 use Rattle.std.specs.Prelude.{ℕ, ◌+◌, cond, List, map, length, take, drop, Some, None, Option, ◌==◌, nat_le, slice_index_or}
 use Rattle.source.specs.declared.parts.Kind.{Kind}

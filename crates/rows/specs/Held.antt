@@ -1,5 +1,5 @@
 -- What a source over rows holds and says.
---   MadeOf         its kind and its four slices are these
+--   MadeOf        its kind and its four slices are these
 --   reading_of    its reading. Features and scripts past the capacity, which `open` refuses, are not read
 --   Opened        what `open` answers: a source that holds and says all of the rows, or the refusal
 --                 where a list is over its capacity

@@ -1,6 +1,6 @@
 -- How much a source over rows may hold.
 --   most_rows, most_numbers    the capacities
---   WithinCapacity                      each list is within its capacity
+--   WithinCapacity             each list is within its capacity
 use Rattle.std.specs.Prelude.{ℕ, ◌≤◌, List, length}
 use Rattle.rows.specs.declared.row.FeatureRow.{FeatureRow}
 use Rattle.rows.specs.declared.row.LangSysRow.{LangSysRow}

@@ -18,6 +18,7 @@ pub(crate) fn within(first: u16, count: u16, len: usize) -> bool
 }
 
 // The rows within the capacity.
+#[tactic(auto, using(crate::proofs::Readings::all_taken))]
 pub(crate) fn capped<T>(rows: &[T]) -> &[T]
     ensures cut { result.now ≡ take most_rows rows.now }
     ensures few { length result.now ≤ most_rows }
@@ -41,6 +42,7 @@ pub(crate) fn row_at<T: Copy>(rows: &[T], at: usize) -> Option<T>
 }
 
 // The row of that number, or how it fails to be one.
+#[tactic(auto, using(crate::proofs::Picks::get_or_missing))]
 pub(crate) fn numbered_row<T: Copy>(rows: &[T], number: u16) -> Standing<T>
     ensures { result ≡ numbered rows.now number }
 {

@@ -20,6 +20,7 @@ pub struct Rows<'a> {
 
 impl<'a> Rows<'a> {
     // The source over the given rows, unless one slice is over its capacity.
+    #[tactic(auto, using(crate::proofs::Readings::all_taken))]
     pub fn open(
         kind: Kind,
         features: &'a [FeatureRow],

@@ -10,11 +10,10 @@ use Rattle.source.specs.declared.parts.LangSysPlace.{LangSysPlace}
 use Rattle.source.specs.declared.parts.LangSysPlace.TheVariants.{Default, Record}
 use Rattle.source.specs.declared.parts.FeaturePlace.{FeaturePlace}
 use Rattle.source.specs.declared.parts.FeaturePlace.TheVariants.{Listed, Alternate}
-use Rattle.source.specs.Reading.{ScriptTable, LangSysTable, FeatureTable, Params}
 use Rattle.source.specs.Standings.{mapped, listed}
-use Rattle.source.specs.Questions.{no_script, script_record, script, no_lang_sys, lang_sys_records, lang_sys_record, default_of, lang_sys_of, lang_sys_head, indices_of, no_feature, feature_record, variation_record, variation_records, no_variation, condition, feature, lookups_of, params_of, no_substitution, substitution_record, substitution_records, substitution_head, variations_head, index_of}
-use Rattle.table.specs.Format.{u16_at, u32_at, list_layout, script_layout, lang_sys_layout, feature_layout, condition_set_layout, substitution_layout, led, entries, lang_sys_at, lang_sys_record_at, script_at, script_record_at, script_list_at, script_list_place, listed_params, alternate_params, feature_at, feature_list_at, feature_record_at, feature_list_place, condition_entry_at, condition_set_at, substitution_record_at, substitution_at, variation_record_at, variations_at, variations_place, read_table}
-use Rattle.table.specs.Places.{entry_of, record_led, script_place, default_led, lang_sys_place, variation_led, condition_set_place, substitution_place, alternate_place, feature_place, feature_params, params_of_place, lang_sys_fields, variations_fields, substitution_fields}
+use Rattle.source.specs.Questions.{no_script, script_record, script, no_lang_sys, lang_sys_records, lang_sys_record, default_of, lang_sys_of, lang_sys_head, indices_of, no_feature, feature_record, variation_record, no_variation, condition, feature, lookups_of, params_of, no_substitution, substitution_records, substitution_head, variations_head, index_of}
+use Rattle.table.specs.Format.{u16_at, u32_at, list_layout, script_layout, lang_sys_layout, feature_layout, condition_set_layout, substitution_layout, led, lang_sys_at, lang_sys_record_at, script_at, script_record_at, script_list_at, script_list_place, listed_params, alternate_params, feature_at, feature_list_at, feature_record_at, feature_list_place, condition_entry_at, condition_set_at, substitution_record_at, substitution_at, variation_record_at, variations_at, variations_place, read_table}
+use Rattle.table.specs.Places.{entry_of, script_place, default_led, lang_sys_place, condition_set_place, substitution_place, feature_place, feature_params, params_of_place, lang_sys_fields, variations_fields, substitution_fields}
 use Rattle.table.proofs.Entries.{getD-entry, field-entry, nth-entry, entry-map, mapped-mapped, variation-map, variation-entry, variation-same, entry-by}
 
 -- a list of records (tag, offset) that lead to tables

@@ -6,8 +6,8 @@
 --   counted            the size of a counted table: its fields end with a 16-bit count of the entries that follow
 --   led                where an offset leads: absent at 0, else to a counted table, which has to lie within
 --   entries            what stands at each entry of a counted table
---   NAME-layout        of a counted table, how many bytes stand before the count, and how many an entry has
--- Each NAME-at reads the table of that name at a place, so that a list can also be read from its own start, at 0.
+--   NAME_layout        of a counted table, how many bytes stand before the count, and how many an entry has
+-- Each NAME_at reads the table of that name at a place, so that a list can also be read from its own start, at 0.
 use Rattle.std.specs.Prelude.{ℕ, ◌+◌, ◌*◌, ◌/◌, Bool, cond, ◌&&◌, List, map, length, take, drop, ◌==◌, nat_le, slice_index}
 use Rattle.std.specs.List.{range_with_len}
 use Rattle.source.specs.declared.parts.Standing.{Standing}

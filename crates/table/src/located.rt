@@ -87,7 +87,8 @@ pub(crate) fn variations(bytes: &[u8]) -> Standing<usize>
 // Where the offset of a variation record leads, of which the first four bytes are the condition set's offset and the
 // next four, `from` 4, that of the substitution table.
 fn variation_led_to(bytes: &[u8], at: u32, from: usize, to: Layout) -> Standing<usize>
-    requires { (Small to) × (from ≤ 4) }
+    requires small { Small to }
+    requires within { from ≤ 4 }
     ensures value { result ≡ variation_led bytes.now at from to }
     ensures inside { Inside bytes.now to result }
 {

@@ -11,7 +11,8 @@ use source::Standing;
 
 // The place of a counted table, if its fields and its entries lie within the bytes.
 pub(crate) fn counted_at(bytes: &[u8], layout: Layout, at: usize) -> Standing<usize>
-    requires { (Small layout) × (at < 2 ^ 63 + 2 ^ 32) }
+    requires small { Small layout }
+    requires near { at < 2 ^ 63 + 2 ^ 32 }
     ensures value { result ≡ whole bytes.now (counted bytes.now layout at) at }
     ensures inside { Inside bytes.now layout result }
 {
@@ -28,7 +29,9 @@ pub(crate) fn counted_at(bytes: &[u8], layout: Layout, at: usize) -> Standing<us
 
 // Where an offset leads from the table that holds it.
 pub(crate) fn led_to(bytes: &[u8], layout: Layout, base: usize, offset: usize) -> Standing<usize>
-    requires { (Small layout) × ((base ≤ length bytes.now) × (offset < 2 ^ 32)) }
+    requires small { Small layout }
+    requires held { base ≤ length bytes.now }
+    requires near { offset < 2 ^ 32 }
     ensures value { result ≡ led bytes.now layout base offset }
     ensures inside { Inside bytes.now layout result }
 {
@@ -40,7 +43,8 @@ pub(crate) fn led_to(bytes: &[u8], layout: Layout, base: usize, offset: usize) -
 
 // The place of an entry of the counted table at `list`.
 pub(crate) fn entry(bytes: &[u8], layout: Layout, list: usize, i: u16) -> Option<usize>
-    requires { (Small layout) × (list + counted bytes.now layout list ≤ length bytes.now) }
+    requires small { Small layout }
+    requires whole { list + counted bytes.now layout list ≤ length bytes.now }
     ensures value { result ≡ at_entry bytes.now layout list i None Some }
     ensures inside { IfSome result (λ e. e + layout.width ≤ length bytes.now) }
 {
@@ -52,7 +56,8 @@ pub(crate) fn entry(bytes: &[u8], layout: Layout, list: usize, i: u16) -> Option
 
 // How a counted table stands, with the number of its entries.
 pub(crate) fn count_of(bytes: &[u8], layout: Layout, list: Standing<usize>) -> Standing<u16>
-    requires { (Small layout) × (Inside bytes.now layout list) }
+    requires small { Small layout }
+    requires inside { Inside bytes.now layout list }
     ensures { result ≡ mapped (λ p. u16_at bytes.now (p + layout.head)) list }
 {
     match list {
@@ -64,7 +69,8 @@ pub(crate) fn count_of(bytes: &[u8], layout: Layout, list: Standing<usize>) -> S
 
 // The 16-bit number at an entry of a counted table.
 pub(crate) fn number_of(bytes: &[u8], layout: Layout, list: Standing<usize>, i: u16) -> Option<u16>
-    requires { (Small layout) × (Inside bytes.now layout list) }
+    requires small { Small layout }
+    requires inside { Inside bytes.now layout list }
     ensures { result ≡ entry_of bytes.now layout list i None (λ p e. Some (u16_at bytes.now e)) }
 {
     let Standing::There(p) = list else {
@@ -78,7 +84,9 @@ pub(crate) fn number_of(bytes: &[u8], layout: Layout, list: Standing<usize>, i: 
 
 // The tag of a record (tag, offset) of a counted table.
 pub(crate) fn tag_of(bytes: &[u8], layout: Layout, list: Standing<usize>, i: u16) -> Tag
-    requires { (Small layout) × ((6 ≤ layout.width) × (Inside bytes.now layout list)) }
+    requires small { Small layout }
+    requires records { 6 ≤ layout.width }
+    requires inside { Inside bytes.now layout list }
     ensures { result.code ≡ entry_of bytes.now layout list i 0 (λ p e. u32_at bytes.now e) }
 {
     let Standing::There(p) = list else {
@@ -100,7 +108,10 @@ pub(crate) fn record_led_to(
     i: u16,
     to: Layout,
 ) -> Standing<usize>
-    requires { (Small layout) × ((6 ≤ layout.width) × ((Small to) × (Inside bytes.now layout list))) }
+    requires small { Small layout }
+    requires records { 6 ≤ layout.width }
+    requires small_to { Small to }
+    requires inside { Inside bytes.now layout list }
     ensures value { result ≡ record_led bytes.now layout list i to }
     ensures inside { Inside bytes.now to result }
 {

@@ -39,7 +39,8 @@ fn condition_by_format(bytes: &[u8], format: u16, at: usize) -> Standing<Conditi
 
 // The condition that the offset at an entry of the condition set at `base` leads to.
 fn condition_at(bytes: &[u8], base: usize, e: usize) -> Standing<Condition>
-    requires { (base ≤ length bytes.now) × (e ≤ length bytes.now) }
+    requires base_held { base ≤ length bytes.now }
+    requires entry_held { e ≤ length bytes.now }
     ensures { result ≡ condition_entry_at bytes.now base e }
 {
     let offset = u32_at(bytes, e) as usize;
