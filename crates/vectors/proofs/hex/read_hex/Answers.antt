@@ -1,4 +1,4 @@
-use Rattle.std.proofs.Common.{◌≡◌, ℕ, ◌+◌, ◌<◌, List, get_or, Some, sym, ap, ◌∙◌, subst, arith, rules, below_more}
+use Rattle.std.proofs.Common.{◌≡◌, ℕ, ◌+◌, ◌<◌, List, get_or, Some, sym, ap, ◌∙◌, arith, rules, below_more}
 use Rattle.vectors.specs.Hex.{byte_at}
 use Rattle.vectors.proofs.hex.read_hex.Goals as goal
 
