@@ -1,5 +1,7 @@
 -- Objects and pools of them, the newest object first. An object's number is how many are older.
 --   width_of w         the bytes of a link's field
+--   same_width v w     whether the widths are equal
+--   same_link l m      whether the links are equal, part by part
 --   size p             the bytes of all objects of a pool
 --   from p k           the pool of old whose newest object is number k
 --   number p k         the object of that number
@@ -9,7 +11,8 @@
 --                      within m bytes, and each target is below n
 --   Linked p           each object's links are such fields in its bytes, and lead to older objects
 --   Once p             no two objects of the pool are equal
-use Rattle.std.specs.Prelude.{◌≡◌, ℕ, zero, suc, ◌+◌, ◌-◌, ◌<◌, ◌≤◌, List, [], ◌∷◌, length, drop, slice_index_or}
+use Rattle.std.specs.Prelude.{◌≡◌, ℕ, zero, suc, ◌+◌, ◌-◌, ◌<◌, ◌≤◌, Bool, ◌==◌, List, [], ◌∷◌, length, drop, slice_index_or}
+use Rattle.std.specs.Ordering.{on, eq_of_both}
 use Rattle.serialize.specs.declared.tables.Width.{Width}
 use Rattle.serialize.specs.declared.tables.Width.TheVariants.{Two, Four}
 use Rattle.serialize.specs.declared.tables.Link.{Link}
@@ -21,6 +24,12 @@ pub record Object : Type 0 where
 abbrev pub width_of : Width → ℕ
 width_of Two = 2
 width_of Four = 4
+
+abbrev pub same_width : Width → Width → Bool
+same_width = on width_of ◌==◌
+
+abbrev pub same_link : Link → Link → Bool
+same_link = eq_of_both (eq_of_both (on (λ l. l.position) ◌==◌) (on (λ l. l.target) ◌==◌)) (on (λ l. l.width) same_width)
 
 abbrev pub size : List Object → ℕ
 size [] = 0

@@ -38,7 +38,7 @@ impl Serializer {
         position: u32,
         value: S,
     ) -> Result<(), Fault>
-        ensures assigned { Sound work.old self.now counts → Assigned position (code value) work.old work.new self.now counts result }
+        ensures assigned { Sound work.old self.now counts → Assigned position (S.code value) work.old work.new self.now counts result }
     {
         let (raw, size) = value.raw();
         self.copy_assign_from_bytes(work, counts, position, &raw[0..size])

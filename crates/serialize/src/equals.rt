@@ -2,15 +2,19 @@
 ghost use Rattle.std.specs.Prelude.{◌≡◌, ◌+◌, ◌*◌, ◌%◌, ◌<◌, length, Decides, fold};
 ghost use Rattle.std.specs.Cmp.Rules.{comparing};
 ghost use Rattle.std.proofs.Common.{rules};
+ghost use Rattle.serialize.specs.Objects.{same_width, same_link};
 
 use crate::tables::{Link, Width};
 
 impl PartialEq for Width {
-    ghost equals = { λ x y r. Decides r (x ≡ y) };
+    ghost eq = { same_width };
 
     ghost laws = { Prim.search (comparing, rules) };
 
-    fn eq(&self, other: &Width) -> bool {
+    fn eq(&self, other: &Width) -> bool
+        ensures computed { result ≡ same_width self.now other.now }
+        ensures same { Decides result (self.now ≡ other.now) }
+    {
         match (*self, *other) {
             (Width::Two, Width::Two) => true,
             (Width::Four, Width::Four) => true,
@@ -20,11 +24,14 @@ impl PartialEq for Width {
 }
 
 impl PartialEq for Link {
-    ghost equals = { λ x y r. Decides r (x ≡ y) };
+    ghost eq = { same_link };
 
     ghost laws = { Prim.search (comparing, rules) };
 
-    fn eq(&self, other: &Link) -> bool {
+    fn eq(&self, other: &Link) -> bool
+        ensures computed { result ≡ same_link self.now other.now }
+        ensures same { Decides result (self.now ≡ other.now) }
+    {
         self.position == other.position && self.target == other.target && self.width == other.width
     }
 }

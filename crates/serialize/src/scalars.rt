@@ -39,7 +39,7 @@ impl Serializer {
         counts: &mut Counts,
         value: S,
     ) -> Result<(), Fault>
-        ensures embedded { Sound work.old self.now counts.old → Embedded (code value) work.old work.new self.now counts.old counts.new result }
+        ensures embedded { Sound work.old self.now counts.old → Embedded (S.code value) work.old work.new self.now counts.old counts.new result }
     {
         let (raw, size) = value.raw();
         self.embed_bytes(work, counts, &raw[0..size])
