@@ -1,5 +1,5 @@
 -- Bytes of the top object written over.
-use Rattle.std.proofs.Common.{◌≡◌, ℕ, zero, suc, ◌+◌, ◌-◌, ◌<◌, ◌≤◌, min, List, [], ◌∷◌, ◌++◌, length, get_or, take, drop, sym, refl, ap, ◌∙◌, subst, arith, rules}
+use Rattle.std.proofs.Common.{◌≡◌, ℕ, zero, suc, ◌+◌, ◌-◌, ◌<◌, ◌≤◌, List, ◌∷◌, length, take, drop, sym, refl, ap, ◌∙◌, subst, arith, rules}
 use lib.Seq.{paste}
 use Rattle.std.specs.List.{between}
 use Rattle.std.proofs.lemmas.List.{same_lists, places}
@@ -7,8 +7,8 @@ use Rattle.std.proofs.lemmas.List.Edits.{length-paste, drop-paste}
 use Rattle.serialize.specs.declared.tables.Counts.{Counts}
 use Rattle.serialize.specs.declared.tables.Serializer.{Serializer}
 use Rattle.serialize.specs.Objects.{Object, Linked, Once}
-use Rattle.serialize.specs.Tables.{start_at, pool_to, open_at, stack_of, sink_of, Chain, Base, Opened, Stacked, Sound, Kept}
-use Rattle.serialize.specs.Calls.{on_top, written, assigned, Assigns}
+use Rattle.serialize.specs.Tables.{start_at, pool_to, open_at, stack_of, Chain, Base, Opened, Stacked, Sound, Kept}
+use Rattle.serialize.specs.Calls.{on_top, written, Assigns}
 use Rattle.serialize.proofs.Parts.{drop-same, take-paste-low}
 use Rattle.serialize.proofs.Keeps.{object-same, sink-same, chain-kept, base_kept, stacked-kept}
 

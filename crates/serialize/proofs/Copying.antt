@@ -1,14 +1,14 @@
 -- An object of bytes alone: opened, filled and packed, or taken back.
-use Rattle.std.proofs.Common.{◌≡◌, ℕ, ◌+◌, ◌-◌, ◌<◌, ◌≤◌, ◌⊎◌, List, [], ◌∷◌, ◌++◌, length, drop, sym, refl, ap, ◌∙◌, subst, inl, inr, ⊎_elim, arith}
+use Rattle.std.proofs.Common.{◌≡◌, ℕ, ◌+◌, ◌-◌, ◌<◌, List, [], ◌∷◌, length, drop, sym, refl, ap, ◌∙◌, subst, inl, inr, ⊎_elim, arith}
 use Rattle.serialize.specs.declared.tables.Counts.{Counts}
 use Rattle.serialize.specs.declared.tables.Serializer.{Serializer}
 use Rattle.serialize.specs.declared.tokens.Token.{Token}
 use Rattle.serialize.specs.declared.faults.Fault.{Fault}
-use Rattle.serialize.specs.declared.faults.Fault.TheVariants.{Work, Limit}
-use Rattle.serialize.specs.Objects.{Object, none, Stands, Absent}
+use Rattle.serialize.specs.declared.faults.Fault.TheVariants.{Work}
+use Rattle.serialize.specs.Objects.{Object, Stands, Absent}
 use Rattle.serialize.specs.Tables.{Sink, start_at, sink_of, Sound, Kept}
-use Rattle.serialize.specs.Calls.{Before, SameOpen, top, on_top, grown, embedded, opened, shared, packed, Pushes, Embeds, Packs, Full, Discards, TakenBack, Copies, Uncopied}
-use Rattle.serialize.proofs.Marking.{kept_refl, kept_trans, kept-earlier, sound-kept}
+use Rattle.serialize.specs.Calls.{Before, SameOpen, top, embedded, opened, Pushes, Embeds, Packs, Full, Discards, TakenBack, Copies, Uncopied}
+use Rattle.serialize.proofs.Marking.{kept_trans, kept-earlier, sound-kept}
 
 module _ (w : List ℕ) (s s₁ : Serializer) (c c₁ : Counts) (t : Token) (sound : Sound w s c) (p : Pushes w s s₁ c c₁ t) where
   -- the counts at the opening

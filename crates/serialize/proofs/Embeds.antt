@@ -1,5 +1,5 @@
 -- Bytes added to the top object.
-use Rattle.std.proofs.Common.{◌≡◌, ℕ, zero, suc, ◌+◌, ◌-◌, ◌<◌, ◌≤◌, min, List, [], ◌∷◌, ◌++◌, length, get_or, take, drop, sym, refl, ap, ◌∙◌, subst, arith, rules}
+use Rattle.std.proofs.Common.{◌≡◌, ℕ, zero, suc, ◌+◌, ◌-◌, ◌≤◌, List, ◌∷◌, ◌++◌, length, take, drop, sym, refl, ap, ◌∙◌, subst, arith}
 use lib.Seq.{paste}
 use Rattle.std.specs.List.{between}
 use Rattle.std.proofs.lemmas.List.{length-take-le, take-append-le, take_all, drop-append-le, append_assoc}
@@ -7,10 +7,10 @@ use Rattle.std.proofs.lemmas.List.Edits.{length-paste, take-paste, drop-paste}
 use Rattle.std.proofs.lemmas.Slice.{between_is}
 use Rattle.serialize.specs.declared.tables.Counts.{Counts}
 use Rattle.serialize.specs.declared.tables.Serializer.{Serializer}
-use Rattle.serialize.specs.Objects.{Object, Fields}
-use Rattle.serialize.specs.Tables.{start_at, pool_to, open_at, stack_of, sink_of, Chain, Base, Opened, Stacked, Sound, Kept}
-use Rattle.serialize.specs.Calls.{on_top, grown, embedded, Embeds}
-use Rattle.serialize.proofs.Parts.{drop-same, take_same}
+use Rattle.serialize.specs.Objects.{Object}
+use Rattle.serialize.specs.Tables.{start_at, open_at, stack_of, Base, Opened, Stacked, Sound, Kept}
+use Rattle.serialize.specs.Calls.{on_top, grown, Embeds}
+use Rattle.serialize.proofs.Parts.{drop-same}
 use Rattle.serialize.proofs.Keeps.{object-same, sink-same, fields-more, pool-kept, base_kept, stacked-kept, kept-before, depth_is}
 
 module _ (d : List ℕ) (at : ℕ) (b : List ℕ) (in-d : at + length b ≤ length d) where

@@ -1,8 +1,8 @@
 -- A link more in the top object.
-use Rattle.std.proofs.Common.{◌≡◌, ℕ, zero, suc, ◌+◌, ◌-◌, ◌<◌, ◌≤◌, min, Bool, true, false, List, [], ◌∷◌, ◌++◌, length, get_or, take, drop, set, Decides, sym, refl, ap, ◌∙◌, subst, inl, inr, ⊎_elim, arith}
+use Rattle.std.proofs.Common.{◌≡◌, ℕ, zero, suc, ◌+◌, ◌-◌, ◌<◌, ◌≤◌, Bool, true, false, List, [], ◌∷◌, ◌++◌, length, get_or, take, drop, set, Decides, sym, refl, ap, ◌∙◌, subst, arith}
 use Rattle.std.specs.List.{between}
 use Rattle.std.proofs.lemmas.List.{length-set, length-take-le, take-set-le, drop-set-lt, take_more_set, drop-append-le}
-use Rattle.std.proofs.lemmas.List.Edits.{between_none, between_more}
+use Rattle.std.proofs.lemmas.List.Edits.{between_more}
 use Rattle.std.proofs.lemmas.Slice.{between_is}
 use Rattle.serialize.specs.declared.tables.Counts.{Counts}
 use Rattle.serialize.specs.declared.tables.Link.{Link}
@@ -11,8 +11,8 @@ use Rattle.serialize.specs.declared.tables.Width.TheVariants.{Two, Four}
 use Rattle.std.proofs.lemmas.Bool.{false≢true}
 use Rattle.serialize.specs.declared.tables.Serializer.{Serializer}
 use Rattle.serialize.specs.Objects.{Object, width_of, last_end, Fields}
-use Rattle.serialize.specs.Tables.{start_at, pool_to, open_at, stack_of, sink_of, Base, Opened, Stacked, Sound, Kept}
-use Rattle.serialize.specs.Calls.{on_top, joined, linked, Takes, Links}
+use Rattle.serialize.specs.Tables.{start_at, open_at, stack_of, Base, Opened, Stacked, Sound, Kept}
+use Rattle.serialize.specs.Calls.{on_top, joined, Takes, Links}
 use Rattle.serialize.proofs.Keeps.{object-same, sink-same, pool-kept, base_kept, stacked-kept, kept-before, depth_is}
 use Rattle.serialize.proofs.Packings.{top_of}
 

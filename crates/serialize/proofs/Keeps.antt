@@ -1,13 +1,12 @@
 -- What c counts is sound, and means the same, wherever it is kept.
-use Rattle.std.proofs.Common.{◌≡◌, ℕ, zero, suc, ◌+◌, ◌-◌, ◌<◌, ◌≤◌, min, List, [], ◌∷◌, length, get_or, take, drop, sym, refl, ap, ◌∙◌, subst, arith}
-use Rattle.std.specs.List.{between}
+use Rattle.std.proofs.Common.{◌≡◌, ℕ, zero, suc, ◌+◌, ◌-◌, ◌<◌, ◌≤◌, List, [], ◌∷◌, length, get_or, drop, sym, refl, ap, ◌∙◌, subst, arith}
 use Rattle.serialize.specs.declared.tables.Counts.{Counts}
 use Rattle.serialize.specs.declared.tables.Frame.{Frame}
 use Rattle.serialize.specs.declared.tables.Packed.{Packed}
 use Rattle.serialize.specs.declared.tables.Link.{Link}
 use Rattle.serialize.specs.declared.tables.Serializer.{Serializer}
 use Rattle.serialize.specs.Objects.{Object, width_of, Fields, Linked, Once}
-use Rattle.serialize.specs.Tables.{end, hash_of, no_counts, no_packed, entry_at, start_at, described, object_at, pool_to, open_at, stack_of, Sink, sink_of, Chain, Base, Opened, Stacked, Sound, Kept}
+use Rattle.serialize.specs.Tables.{hash_of, no_counts, no_packed, entry_at, start_at, described, object_at, pool_to, open_at, stack_of, Sink, Chain, Base, Opened, Stacked, Kept}
 use Rattle.serialize.proofs.Parts.{drop-same, take_same, between-high, between-low, getD-same}
 
 pub counts_same : (a b : Counts) → a.head ≡ b.head → a.tail ≡ b.tail → a.lhead ≡ b.lhead → a.ltail ≡ b.ltail → a.objects ≡ b.objects → a.depth ≡ b.depth → a ≡ b

@@ -1,18 +1,16 @@
 -- Objects laid one by one.
-use Rattle.std.proofs.Common.{◌≡◌, ℕ, zero, suc, ◌+◌, ◌-◌, ◌*◌, ◌/◌, ◌%◌, ◌<◌, ◌≤◌, min, List, [], ◌∷◌, ◌++◌, length, get_or, take, drop, set, sym, refl, ap, ◌∙◌, subst, inl, inr, ⊎_elim, arith}
-use lib.Seq.{paste}
+use Rattle.std.proofs.Common.{◌≡◌, ℕ, zero, suc, ◌+◌, ◌-◌, ◌/◌, ◌%◌, ◌<◌, ◌≤◌, List, [], ◌∷◌, ◌++◌, length, get_or, take, drop, sym, refl, ap, ◌∙◌, subst, ⊎_elim, arith}
 use borrow.Rule.Slice.PartMut.{put_mid}
-use Rattle.std.specs.List.{between}
 use Rattle.std.proofs.lemmas.List.{append_assoc, length-take-le, take-append-le, take-take, take-append-drop, drop_at, drop-drop, at_drop_more, at_drop_all, drop_more, drop_all}
-use Rattle.std.proofs.lemmas.List.Edits.{length-paste, length-between}
+use Rattle.std.proofs.lemmas.List.Edits.{length-between}
 use Rattle.std.proofs.lemmas.Bool.{cases_order}
 use Rattle.serialize.specs.declared.tables.Width.{Width}
 use Rattle.serialize.specs.declared.tables.Width.TheVariants.{Two, Four}
 use Rattle.serialize.specs.declared.tables.Counts.{Counts}
 use Rattle.serialize.specs.declared.tables.Link.{Link}
 use Rattle.serialize.specs.declared.tables.Serializer.{Serializer}
-use Rattle.serialize.specs.Objects.{Object, none, width_of, size, from, number, Fields, Linked}
-use Rattle.serialize.specs.Tables.{end, entry_at, object_at, pool_to, Chain, Base, Entry, Lies, Sound}
+use Rattle.serialize.specs.Objects.{Object, width_of, size, from, number, Fields, Linked}
+use Rattle.serialize.specs.Tables.{end, entry_at, object_at, pool_to, Chain, Entry, Lies, Sound}
 use Rattle.serialize.specs.Laying.{field, put, place, distance, patched, laid, Within, Short, AllShort}
 use Rattle.serialize.proofs.Pools.{length-pool, number_of, chain-within, entry_in}
 

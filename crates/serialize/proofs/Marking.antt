@@ -1,5 +1,5 @@
 -- What a mark puts back: counts under which all is as it was, since later calls only added to it.
-use Rattle.std.proofs.Common.{◌≡◌, ℕ, ◌+◌, ◌-◌, ◌<◌, ◌≤◌, ◌⊎◌, List, [], ◌∷◌, length, take, replicate, Ok, Err, Result, sym, refl, ap, ◌∙◌, subst, inl, inr, ⊎_elim, arith}
+use Rattle.std.proofs.Common.{◌≡◌, ℕ, ◌+◌, ◌-◌, ◌<◌, ◌≤◌, ◌⊎◌, List, [], ◌∷◌, length, take, replicate, Err, Result, sym, refl, ap, ◌∙◌, subst, inl, inr, ⊎_elim, arith}
 use Rattle.serialize.specs.declared.faults.Fault.{Fault}
 use Rattle.serialize.specs.declared.tables.Width.{Width}
 use Rattle.serialize.specs.declared.tables.Width.TheVariants.{Two, Four}
@@ -9,7 +9,7 @@ use Rattle.serialize.specs.declared.tables.Serializer.{Serializer}
 use Rattle.std.specs.List.{between}
 use Rattle.std.proofs.lemmas.Bool.{cases_order}
 use Rattle.serialize.specs.Objects.{width_of, last_end, Fields}
-use Rattle.serialize.specs.Tables.{Sink, start_at, sink_of, Sound, Kept}
+use Rattle.serialize.specs.Tables.{start_at, sink_of, Sound, Kept}
 use Rattle.serialize.specs.Calls.{Before, embedded, linked, Takes, Embeds, Links, Unlinked, Offsets, TakenBack, OffsetAdded}
 use Rattle.std.proofs.lemmas.List.{length-replicate}
 use Rattle.serialize.proofs.Parts.{drop-same, take_same}

@@ -1,5 +1,5 @@
 -- Objects opened and discarded.
-use Rattle.std.proofs.Common.{◌≡◌, ℕ, zero, suc, ◌+◌, ◌-◌, ◌<◌, ◌≤◌, min, List, [], ◌∷◌, length, get_or, take, drop, set, sym, refl, ap, ◌∙◌, subst, inl, inr, ⊎_elim, add-one, arith}
+use Rattle.std.proofs.Common.{◌≡◌, ℕ, zero, suc, ◌+◌, ◌-◌, ◌<◌, ◌≤◌, List, [], ◌∷◌, length, drop, set, sym, refl, ap, ◌∙◌, subst, ⊎_elim, add-one, arith}
 use Rattle.std.specs.List.{between}
 use Rattle.std.proofs.lemmas.List.{length-set, get_or-set_same, take-set-le}
 use Rattle.std.proofs.lemmas.List.Edits.{between_none}
@@ -9,8 +9,8 @@ use Rattle.serialize.specs.declared.tables.Frame.{Frame}
 use Rattle.serialize.specs.declared.tables.Serializer.{Serializer}
 use Rattle.serialize.specs.declared.tokens.Token.{Token}
 use Rattle.serialize.specs.Objects.{Object, none, Fields}
-use Rattle.serialize.specs.Tables.{end, no_counts, start_at, pool_to, open_at, stack_of, sink_of, Chain, Base, Opened, Stacked, Sound, Kept}
-use Rattle.serialize.specs.Calls.{opened, Pushes, Discards}
+use Rattle.serialize.specs.Tables.{end, no_counts, start_at, pool_to, open_at, stack_of, Base, Opened, Stacked, Sound, Kept}
+use Rattle.serialize.specs.Calls.{Pushes, Discards}
 use Rattle.serialize.proofs.Keeps.{object-same, sink-same, pool-kept, base_kept, stacked-kept, depth_is}
 
 abbrev pub fresh : List ℕ → Counts

@@ -1,5 +1,5 @@
 -- The top object packed, by a standing equal one or as a new one.
-use Rattle.std.proofs.Common.{◌≡◌, ℕ, zero, suc, ◌+◌, ◌-◌, ◌<◌, ◌≤◌, min, ◌≢◌, List, [], ◌∷◌, length, get_or, take, drop, set, sym, refl, ap, ◌∙◌, subst, inl, inr, ⊎_elim, arith}
+use Rattle.std.proofs.Common.{◌≡◌, ℕ, zero, suc, ◌+◌, ◌-◌, ◌<◌, ◌≤◌, ◌≢◌, List, ◌∷◌, length, get_or, take, drop, set, sym, refl, ap, ◌∙◌, subst, inl, inr, arith}
 use lib.Seq.{paste}
 use Rattle.std.specs.List.{between}
 use Rattle.std.proofs.lemmas.List.{length-set, length-drop, get_or-set_same, get_or-set_other, take-set-le}
@@ -8,13 +8,13 @@ use Rattle.serialize.specs.declared.tables.Counts.{Counts}
 use Rattle.serialize.specs.declared.tables.Packed.{Packed}
 use Rattle.serialize.specs.declared.tables.Link.{Link}
 use Rattle.serialize.specs.declared.tables.Serializer.{Serializer}
-use Rattle.serialize.specs.Objects.{Object, none, number, Fields, Linked, Once, Stands, Absent}
-use Rattle.serialize.specs.Tables.{end, hash_of, no_packed, entry_at, start_at, described, object_at, pool_to, open_at, stack_of, sink_of, Chain, Base, Opened, Stacked, Over, Sound, Kept}
+use Rattle.serialize.specs.Objects.{Object, none, Fields, Linked, Once, Stands, Absent}
+use Rattle.serialize.specs.Tables.{hash_of, no_packed, entry_at, start_at, described, object_at, pool_to, open_at, stack_of, sink_of, Chain, Base, Opened, Stacked, Over, Sound, Kept}
 use Rattle.serialize.specs.declared.faults.Fault.TheVariants.{Limit}
-use Rattle.serialize.specs.Calls.{Before, SameOpen, top, shared, packed, Packs, Full}
+use Rattle.serialize.specs.Calls.{Before, SameOpen, top, Packs, Full}
 use Rattle.serialize.proofs.Openings.{discards}
 use Rattle.serialize.proofs.Parts.{drop-same, take-paste-low, between-paste}
-use Rattle.serialize.proofs.Keeps.{object-same, sink-same, fields-more, chain-kept, base_kept, stacked-kept, depth_is}
+use Rattle.serialize.proofs.Keeps.{object-same, sink-same, fields-more, chain-kept, stacked-kept, depth_is}
 use Rattle.serialize.proofs.Pools.{length-pool}
 
 -- counts under which the open objects are those of f, with what was packed up to t, l and n
@@ -248,7 +248,7 @@ module _ (w : List ℕ) (s : Serializer) (c : Counts) (sound : Sound w s c) (lev
   }
 
 pub packs-settled : (w w' : List ℕ) (s s' : Serializer) (c f c' : Counts) (mark : ℕ) → Sound w s c → Top w s c f → Absent (open_at w s f c) (pool_to w s c.objects) → c.objects < 2048 → mark ≡ hash_of (open_at w s f c) → w' ≡ paste w (c.tail - (c.head - f.head)) (drop f.head w) (c.head - f.head) → s' ≡ settled s f c mark (paste s.links (c.ltail - (c.lhead - f.lhead)) (drop f.lhead s.links) (c.lhead - f.lhead)) → c' ≡ packed-counts f c → Packs w w' s s' c c' c.objects
-packs-settled w w' s s' c f c' mark sound h new room hashed wis sis cis =
+packs-settled w w' s _ c f c' mark sound h new room hashed wis sis cis =
     subst (λ (t : Serializer). Packs w w' s t c c' c.objects) (sym sis)
     (subst (λ (d : Counts). Packs w w' s (settled s f c mark (paste s.links (c.ltail - (c.lhead - f.lhead)) (drop f.lhead s.links) (c.lhead - f.lhead))) c d c.objects) (sym cis)
     (packs-new w w' s (paste s.links (c.ltail - (c.lhead - f.lhead)) (drop f.lhead s.links) (c.lhead - f.lhead)) c f mark sound h new room hashed wis refl))

@@ -1,11 +1,11 @@
 -- A tree that a pool stands for is read from its laid bytes.
-use Rattle.std.proofs.Common.{◌≡◌, ℕ, zero, suc, ◌+◌, ◌-◌, ◌<◌, ◌≤◌, min, ◌⊎◌, List, [], ◌∷◌, ◌++◌, length, get_or, take, drop, sym, refl, ap, ◌∙◌, subst, inl, inr, ⊎_elim, arith}
+use Rattle.std.proofs.Common.{◌≡◌, ℕ, suc, ◌+◌, ◌-◌, ◌<◌, ◌≤◌, ◌⊎◌, List, [], ◌∷◌, ◌++◌, length, get_or, drop, sym, refl, ap, ◌∙◌, subst, ⊎_elim, arith}
 use Rattle.std.specs.List.{between}
 use Rattle.std.proofs.lemmas.Bool.{cases_order}
 use Rattle.serialize.specs.declared.tables.Width.{Width}
 use Rattle.serialize.specs.declared.tables.Width.TheVariants.{Two, Four}
 use Rattle.serialize.specs.declared.tables.Link.{Link}
-use Rattle.serialize.specs.Objects.{Object, none, width_of, size, from, number, Stands, Fields, Linked}
+use Rattle.serialize.specs.Objects.{Object, none, width_of, size, number, Stands, Fields, Linked}
 use Rattle.serialize.specs.Laying.{field, place, distance, Within, Short, AllShort, Outside, Fielded, laid, Carried, Lays}
 use Rattle.serialize.specs.Trees.{Kids, LinksOf, StandsFor, Readable, Apart, BytesAt, KidsAt, ReadAt, ReadBack, Planted, grafted, Grafted}
 use Rattle.serialize.specs.Trees.Kids.{done, kid}

@@ -12,12 +12,12 @@
 --   Offsets v t ..        a field of zeros and its link to the object t are added to the top object
 --   Copies b .. k         the bytes b are packed as an object of their own
 --   TakenBack ..          what the counts count is as before
-use Rattle.std.specs.Prelude.{◌≡◌, ℕ, zero, suc, ◌+◌, ◌-◌, ◌<◌, ◌≤◌, ◌⊎◌, List, [], ◌∷◌, ◌++◌, length, drop, replicate, Result, MatchResult, slice_index_or, slice_set}
+use Rattle.std.specs.Prelude.{◌≡◌, ℕ, ◌+◌, ◌-◌, ◌<◌, ◌≤◌, ◌⊎◌, List, [], ◌∷◌, ◌++◌, length, drop, replicate, Result, MatchResult, slice_index_or, slice_set}
 use Rattle.serialize.specs.declared.tables.Width.{Width}
 use Rattle.std.proofs.Math.Seq.{paste}
 use Rattle.std.specs.List.{between}
 use Rattle.serialize.specs.declared.faults.Fault.{Fault}
-use Rattle.serialize.specs.declared.faults.Fault.TheVariants.{Work, Limit, Offset, Out}
+use Rattle.serialize.specs.declared.faults.Fault.TheVariants.{Work, Limit}
 use Rattle.serialize.specs.declared.tables.Link.{Link}
 use Rattle.serialize.specs.declared.tables.Counts.{Counts}
 use Rattle.serialize.specs.declared.tables.Serializer.{Serializer}

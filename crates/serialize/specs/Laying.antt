@@ -10,7 +10,7 @@
 --   Outside ls i       no link has a field at the position i
 --   Carried p b        what a reader finds in b: at each object's place its bytes outside its links' fields, and in
 --                      each field the target's place minus the holder's
-use Rattle.std.specs.Prelude.{◌≡◌, ℕ, zero, suc, ◌+◌, ◌-◌, ◌*◌, ◌/◌, ◌%◌, ◌<◌, ◌≤◌, ◌⊎◌, List, [], ◌∷◌, ◌++◌, length, drop, Result, MatchResult, slice_index}
+use Rattle.std.specs.Prelude.{◌≡◌, ℕ, ◌+◌, ◌-◌, ◌/◌, ◌%◌, ◌<◌, ◌≤◌, ◌⊎◌, List, [], ◌∷◌, ◌++◌, length, drop, Result, MatchResult, slice_index}
 use Rattle.std.proofs.Math.Seq.{paste}
 use Rattle.std.specs.List.{between}
 use Rattle.serialize.specs.declared.faults.Fault.{Fault}

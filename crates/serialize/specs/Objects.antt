@@ -11,7 +11,7 @@
 --                      within m bytes, and each target is below n
 --   Linked p           each object's links are such fields in its bytes, and lead to older objects
 --   Once p             no two objects of the pool are equal
-use Rattle.std.specs.Prelude.{◌≡◌, ℕ, zero, suc, ◌+◌, ◌-◌, ◌<◌, ◌≤◌, Bool, ◌==◌, List, [], ◌∷◌, length, drop, slice_index_or}
+use Rattle.std.specs.Prelude.{◌≡◌, ℕ, suc, ◌+◌, ◌-◌, ◌<◌, ◌≤◌, Bool, ◌==◌, List, [], ◌∷◌, length, drop, slice_index_or}
 use Rattle.std.specs.Ordering.{on, eq_of_both}
 use Rattle.serialize.specs.declared.tables.Width.{Width}
 use Rattle.serialize.specs.declared.tables.Width.TheVariants.{Two, Four}

@@ -18,10 +18,8 @@
 --   Kept c w s w' s' what c counts is the same in both
 use Rattle.std.specs.Prelude.{◌≡◌, ℕ, zero, suc, ◌+◌, ◌-◌, ◌*◌, ◌%◌, ◌≤◌, min, List, [], ◌∷◌, length, get_or, take, drop, fold, slice_index, slice_index_or}
 use Rattle.std.specs.List.{between}
-use Rattle.serialize.specs.declared.tables.Width.TheVariants.{Two}
 use Rattle.serialize.specs.declared.tables.Link.{Link}
 use Rattle.serialize.specs.declared.tables.Counts.{Counts}
-use Rattle.serialize.specs.declared.tables.Frame.{Frame}
 use Rattle.serialize.specs.declared.tables.Packed.{Packed}
 use Rattle.serialize.specs.declared.tables.Serializer.{Serializer}
 use Rattle.serialize.specs.Objects.{Object, Fields, Linked, Once}

@@ -7,7 +7,7 @@
 --   BytesAt b a bs ks    from the place a on, b has the bytes bs outside the kids' fields
 --   KidsAt b a ks        each kid's field, at its position from a, holds how far from a the kid is read
 --   ReadAt b a bs ks     the tree is read from the place a on
-use Rattle.std.specs.Prelude.{◌≡◌, ℕ, ◌+◌, ◌-◌, ◌<◌, ◌≤◌, ◌⊎◌, List, [], ◌∷◌, ◌++◌, length, slice_index}
+use Rattle.std.specs.Prelude.{◌≡◌, ℕ, ◌+◌, ◌-◌, ◌<◌, ◌≤◌, ◌⊎◌, List, [], ◌∷◌, length, slice_index}
 use Rattle.std.specs.List.{between}
 use Rattle.serialize.specs.declared.tables.Width.{Width}
 use Rattle.serialize.specs.declared.tables.Width.TheVariants.{Two, Four}

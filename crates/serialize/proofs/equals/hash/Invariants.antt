@@ -1,4 +1,4 @@
-use Rattle.std.proofs.Common.{◌≡◌, ◌+◌, ◌*◌, ◌%◌, ◌<◌, length, drop, fold}
+use Rattle.std.proofs.Common.{◌≡◌, ◌+◌, ◌*◌, ◌%◌, ◌<◌, drop, fold}
 use Rattle.serialize.proofs.equals.hash.Given as goal
 
 abbrev pub invariant-loop-b : goal.invariant-loop-b

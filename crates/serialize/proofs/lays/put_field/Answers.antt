@@ -10,4 +10,4 @@ returns c =
     let v = c.args.link.width in
     let n = c.args.distance in
     let e = length-field v n in
-    record { put = λ within. put_mid-paste _ _ c.args.part.now _ (field v n) _ (c.copy-from-slice.ensures.after ∙ field-part v n _ _ z c.to-be-bytes-raw.ensures) (omega arith) (omega arith) }
+    record { put = λ within. put_mid-paste _ _ c.args.part.now _ (field v n) _ (c.copy_from_slice.ensures.after ∙ field-part v n _ _ z c.to_be_bytes-raw.ensures) (omega arith) (omega arith) }

@@ -6,4 +6,4 @@ use Rattle.serialize.proofs.tables.Serializer.embed_bytes.Goals as goal
 
 pub returns : goal.returns
 returns c =
-    record { embedded = λ sound. embeds-to c.args.bytes.now c.args.work.now _ c.args.self.now c.args.counts.now (put_mid-paste _ _ c.args.work.now _ c.args.bytes.now _ c.copy-from-slice.ensures.after (omega arith) (omega arith)) sound (omega arith) _ (counts_same _ _ (omega arith) (omega arith) (omega arith) (omega arith) (omega arith) (omega arith)) }
+    record { embedded = λ sound. embeds-to c.args.bytes.now c.args.work.now _ c.args.self.now c.args.counts.now (put_mid-paste _ _ c.args.work.now _ c.args.bytes.now _ c.copy_from_slice.ensures.after (omega arith) (omega arith)) sound (omega arith) _ (counts_same _ _ (omega arith) (omega arith) (omega arith) (omega arith) (omega arith) (omega arith)) }

@@ -28,7 +28,7 @@ loop-i-preserved c = λ k sound n t room.
     let p = entry-places w s _ _ _ chain i c.loop-i-test.true in
     let x = entry_at s i in
     let z = length-between c.loop-i.out (x.head - c.args.counts.tail) (x.tail - c.args.counts.tail) (omega (arith, p.4, c.loop-i.auto.out)) in
-    so_far_more w s _ _ _ chain c.args.out.now c.loop-i.out _ i c.loop-i-test.true room (c.loop-i.invariant k sound n t room) (c.put-object.ensures.patched k sound (omega arith) (omega (arith, z, p.0, p.1)))
+    so_far_more w s _ _ _ chain c.args.out.now c.loop-i.out _ i c.loop-i-test.true room (c.loop-i.invariant k sound n t room) (c.put_object.ensures.patched k sound (omega arith) (omega (arith, z, p.0, p.1)))
 
 pub returns : goal.returns
 returns c =

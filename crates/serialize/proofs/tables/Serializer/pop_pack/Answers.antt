@@ -26,9 +26,9 @@ returns-in-Some c =
 
 pub returns-then-grown-ge2048 : goal.returns-then-grown-ge2048
 returns-then-grown-ge2048 c =
-    record { packed = λ sound e. full c.args.work.now c.args.self.now c.args.counts.now sound c.args.token.level c.args.token.ok.0 e c.if-grown-ge2048.true (c.in-default.ensures.found sound c.mark-mark.ensures.hashed); planted = λ sound e. tt }
+    record { packed = λ sound e. full c.args.work.now c.args.self.now c.args.counts.now sound c.args.token.level c.args.token.ok.0 e c.if-grown-ge2048.true (c.in_default.ensures.found sound c.mark-mark.ensures.hashed); planted = λ sound e. tt }
 
 pub returns : goal.returns
 returns c =
-    let h = λ (sound : Sound c.args.work.now c.args.self.now c.args.counts.now) (e : c.args.token.level ≡ c.args.counts.now.depth). packs-settled c.args.work.now _ c.args.self.now _ c.args.counts.now _ _ c.mark-mark.result sound (top-at c.args.work.now c.args.self.now c.args.counts.now sound c.args.token.level c.args.token.ok.0 e) (c.in-default.ensures.found sound c.mark-mark.ensures.hashed) c.if-grown-ge2048.false c.mark-mark.ensures.hashed c.settle.ensures.work c.settle.ensures.tables c.settle.ensures.counts in
+    let h = λ (sound : Sound c.args.work.now c.args.self.now c.args.counts.now) (e : c.args.token.level ≡ c.args.counts.now.depth). packs-settled c.args.work.now _ c.args.self.now _ c.args.counts.now _ _ c.mark-mark.result sound (top-at c.args.work.now c.args.self.now c.args.counts.now sound c.args.token.level c.args.token.ok.0 e) (c.in_default.ensures.found sound c.mark-mark.ensures.hashed) c.if-grown-ge2048.false c.mark-mark.ensures.hashed c.settle.ensures.work c.settle.ensures.tables c.settle.ensures.counts in
     record { packed = h; planted = λ sound e. packs-planted _ _ _ _ _ _ _ (h sound e) }

@@ -1,4 +1,4 @@
-use Rattle.std.proofs.Common.{◌≡◌, suc, length, sym, ap, ◌∙◌, subst, arith}
+use Rattle.std.proofs.Common.{suc, length, sym, ap, ◌∙◌, subst, arith}
 use Rattle.std.proofs.lemmas.Bool.{both_ways}
 use Rattle.serialize.specs.Tables.{object_at, pool_to}
 use Rattle.serialize.specs.Objects.{Fields}
@@ -22,5 +22,5 @@ returns c =
     let w = c.args.work.now in
     let s = c.args.self.now in
     let i = c.args.i in
-    let a = c.copy-from-slice.ensures.after in
+    let a = c.copy_from_slice.ensures.after in
     record { patched = λ k sound packed sized. c.patch.ensures.patched w k sound packed (subst (λ b. Fields 0 (object_at w s i).links (length b) i) (sym a) (linked-at w s _ i sound.base.linked packed)) ∙ ap (λ b. patched b (object_at w s i).links (pool_to w s (suc i))) a }

@@ -1,4 +1,4 @@
-use Rattle.std.proofs.Common.{◌⊎◌, inl, inr, ⊎_elim, arith}
+use Rattle.std.proofs.Common.{⊎_elim, arith}
 use Rattle.std.proofs.lemmas.Bool.{leb-true, le-leb}
 use Rattle.serialize.proofs.Fielding.{takes-if, takes-some, takes-not}
 use Rattle.serialize.proofs.tables.Serializer.takes.Goals as goal
@@ -9,7 +9,7 @@ returns-then-counts-eq0 c =
 
 pub returns-then-end-counts : goal.returns-then-end-counts
 returns-then-end-counts c =
-    record { takes = λ w sound. takes-if w c.args.self.now c.args.counts c.args.link sound (omega arith) (omega arith) (omega (arith, c.size.ensures.size)) _ (λ p. omega (arith, leb-true _ _ p, c.last-end.ensures.end)) (λ q. le-leb _ _ (omega (arith, c.last-end.ensures.end))) }
+    record { takes = λ w sound. takes-if w c.args.self.now c.args.counts c.args.link sound (omega arith) (omega arith) (omega (arith, c.size.ensures.size)) _ (λ p. omega (arith, leb-true _ _ p, c.last_end.ensures.end)) (λ q. le-leb _ _ (omega (arith, c.last_end.ensures.end))) }
 
 pub returns-else-end-counts : goal.returns-else-end-counts
 returns-else-end-counts c =
