@@ -1,4 +1,5 @@
 pub mod Parts
+pub mod Equality
 pub mod Keeps
 pub mod Embeds
 pub mod Openings

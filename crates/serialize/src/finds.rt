@@ -20,7 +20,7 @@ impl Serializer {
     // Whether the packed object `i` has these bytes and links.
     pub(crate) fn equals(&self, work: &[u8], i: usize, bytes: &[u8], links: &[Link]) -> bool
         requires place { i < 2048 }
-        ensures same { Entry work.now self.now 0 0 i → Decides result (object_at work.now self.now i ≡ record { bytes = bytes.entry.now; links = links.now }) }
+        ensures same { Entry work.now self.now 0 0 i → Decides result (object_at work.now self.now i ≡ record { bytes = bytes.now; links = links.now }) }
     {
         let entry = self.packed[i];
         let (head, tail) = (entry.head as usize, entry.tail as usize);
