@@ -1,15 +1,14 @@
 // Equality of objects, and the number by which unequal ones are passed over.
 ghost use Rattle.std.specs.Prelude.{◌≡◌, ◌+◌, ◌*◌, ◌%◌, ◌<◌, length, Decides, fold};
-ghost use Rattle.std.specs.Cmp.Rules.{comparing};
-ghost use Rattle.std.proofs.Common.{rules};
-ghost use Rattle.serialize.specs.Objects.{same_width, same_link};
+ghost use Rattle.std.specs.Cmp.{nat_eq_equiv, partial_equiv_from_equiv, on_per, and_per};
+ghost use Rattle.serialize.specs.Objects.{width_of, same_width, same_link};
 
 use crate::tables::{Link, Width};
 
 impl PartialEq for Width {
     ghost eq = { same_width };
 
-    ghost laws = { Prim.search (comparing, rules) };
+    ghost laws = { on_per width_of (partial_equiv_from_equiv nat_eq_equiv) };
 
     fn eq(&self, other: &Width) -> bool
         ensures computed { result ≡ same_width self.now other.now }
@@ -26,7 +25,7 @@ impl PartialEq for Width {
 impl PartialEq for Link {
     ghost eq = { same_link };
 
-    ghost laws = { Prim.search (comparing, rules) };
+    ghost laws = { let numbers = partial_equiv_from_equiv nat_eq_equiv in and_per (and_per (on_per (λ l. l.position) numbers) (on_per (λ l. l.target) numbers)) (on_per (λ l. l.width) (on_per width_of numbers)) };
 
     fn eq(&self, other: &Link) -> bool
         ensures computed { result ≡ same_link self.now other.now }
