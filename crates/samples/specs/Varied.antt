@@ -3,7 +3,6 @@
 use Rattle.std.specs.Prelude.{ℕ, ◌+◌, ◌*◌, List, [], ◌∷◌, codes, fold}
 use Rattle.source.specs.declared.parts.Kind.TheVariants.{Gpos}
 use Rattle.source.specs.declared.parts.Condition.TheVariants.{Format1, Other}
-use Rattle.source.specs.declared.parts.Standing.{Standing}
 use Rattle.source.specs.declared.parts.Standing.TheVariants.{Absent, Unreadable, There}
 use Rattle.source.specs.Reading.{ScriptRecord, FeatureRecord, VariationRecord, Reading}
 use Rattle.source.specs.Reading.Params.{size, stylistic_set, character_variant}
