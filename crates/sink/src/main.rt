@@ -10,18 +10,15 @@ mod tree;
 use halt::Halt;
 use hex::Hex;
 use serialize::{Counts, Piece, Serializer, Width};
+use std::process::ExitCode;
 use tree::{pack_and_discard, pack_root};
 
-// The program ends with status 1.
-#[derive(Debug, Drop)]
-struct Failed;
-
-fn main(rt: HostRuntime) -> Result<(), Failed> {
+fn main(rt: HostRuntime) -> ExitCode {
     match show(&rt) {
-        Ok(()) => Ok(()),
+        Ok(()) => ExitCode::SUCCESS,
         Err(halt) => {
             let _ = eprintln!(rt; "sink: {halt}");
-            Err(Failed)
+            ExitCode::FAILURE
         }
     }
 }
