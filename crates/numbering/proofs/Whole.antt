@@ -1,12 +1,13 @@
 -- The stages together.
-use Rattle.std.proofs.Common.{◌≡◌, ℕ, ◌-◌, ◌≤◌, List, map, length, take, sym, ap, ◌∙◌, subst, arith}
+use Rattle.std.proofs.Common.{◌≡◌, ℕ, ◌-◌, ◌≤◌, nat_eq, List, map, length, take, sym, ap, ◌∙◌, subst, arith}
 use Rattle.std.proofs.lemmas.List.{length-map, length-take, take-take}
 use Rattle.std.proofs.lemmas.Bool.{and_parts}
 use Rattle.source.specs.Reading.{Reading}
 use Rattle.numbering.specs.declared.systems.PruneLangSysContext.{PruneLangSysContext}
-use Rattle.numbering.specs.Sets.{Ascends, among}
+use Rattle.source.specs.Standings.{listed}
+use Rattle.numbering.specs.Sets.{Ascends, among, lookup_beside}
 use Rattle.numbering.specs.Stages.{survivors, matched, earliest_of}
-use Rattle.numbering.specs.Systems.{Walk, is_named, retained}
+use Rattle.numbering.specs.Systems.{Walk, no_walk, walk_scripts, is_named, retained}
 use Rattle.numbering.specs.Context.{Paired, Agrees, chosen}
 use Rattle.numbering.specs.Numbers.{Settled, number, owners}
 use Rattle.numbering.specs.Numbering.{held, held_pairs, the_matched, first_alike, the_walk, the_retained, Laws, Numbers}
@@ -85,3 +86,25 @@ module _ (r : Reading) (ls fs : List ℕ) where
             (subst (λ x. Laws r ls fs ts (the_retained r ls fs ts) (map (number (the_retained r ls fs ts) (first_alike r ls fs)) (the_retained r ls fs ts)) x (held_pairs n.pairs)) (sym o)
             (subst (Laws r ls fs ts (the_retained r ls fs ts) (map (number (the_retained r ls fs ts) (first_alike r ls fs)) (the_retained r ls fs ts)) (length (owners (the_retained r ls fs ts) (first_alike r ls fs)))) (sym p) (laws-of r ls fs ts up))));
       }
+
+-- From what the first stages promise: the survivors A, their earliest matches B, and a fresh context c.
+module _ (r : Reading) (ls fs A B : List ℕ) (k j : ℕ) (up : Ascends fs) (few : length fs ≤ 512) (survived : take k A ≡ survivors r ls fs)
+    (within : j ≤ length (take (k - 0) A)) (front : take j (take (k - 0) A) ≡ matched r (take (k - 0) A))
+    (earliest : take j B ≡ earliest_of r ls (take (k - 0) A)) where
+  settled-matched : take (j - 0) A ≡ the_matched r ls fs
+  settled-matched = whole-matched r ls fs A B k j survived within front
+
+  pub settled-earliest : take j B ≡ earliest_of r ls (survivors r ls fs)
+  settled-earliest = whole-earliest r ls fs A B k j survived earliest
+
+  pub lent_pairs : Paired (take (j - 0) A) (take (j - 0) B)
+  lent_pairs = lend r ls fs A B j settled-matched settled-earliest Paired (paired r ls fs up few)
+
+  module _ (ts : List ℕ) (c : PruneLangSysContext) (fresh : (ms : List ℕ) → length ms ≤ 512 → Agrees ms c no_walk) where
+    -- the walk over what is lent is the whole walk
+    pub whole_walk : (P : List ℕ → Walk → Type 0)
+        → ((w : Walk) → Agrees (take (j - 0) A) c w → P (take (j - 0) A) (walk_scripts (lookup_beside nat_eq (take (j - 0) A) (take (j - 0) B)) ts 0 (listed r.scripts) w))
+        → P (the_matched r ls fs) (the_walk r ls fs ts)
+    whole_walk P x =
+        settle r ls fs A B j settled-matched settled-earliest (λ ms es. P ms (walk_scripts (lookup_beside nat_eq ms es) ts 0 (listed r.scripts) no_walk))
+        (x no_walk (lend r ls fs A B j settled-matched settled-earliest (λ ms _. Agrees ms c no_walk) (fresh (the_matched r ls fs) (matched-few r ls fs up few))))

@@ -1,51 +1,30 @@
-use Rattle.std.proofs.Common.{◌≡◌, ◌-◌, ◌<◌, ◌≤◌, eqb, map, length, take, sym, ap, ◌∙◌, subst, arith}
+use Rattle.std.proofs.Common.{◌≡◌, ◌-◌, ◌<◌, map, length, take, sym, ap, ◌∙◌, subst, arith}
+use Rattle.std.proofs.lemmas.List.{length-map}
 use Rattle.std.proofs.lemmas.Result.{err_from_is_err_and}
-use Rattle.source.specs.Standings.{listed}
-use Rattle.numbering.specs.Systems.{code_of, no_walk, walk_scripts}
-use Rattle.numbering.specs.Context.{Paired, Agrees}
+use Rattle.source.specs.declared.refusals.Refusal.TheVariants.{TooManyPairs}
+use Rattle.numbering.specs.Systems.{code_of}
 use Rattle.numbering.specs.Context.{Walked, chosen}
 use Rattle.numbering.specs.Numbers.{Settled, number, owners}
-use Rattle.numbering.specs.Sets.{Ascends, lookup_beside}
-use Rattle.numbering.specs.Numbering.{first_alike, the_matched, the_retained}
-use Rattle.std.proofs.lemmas.List.{length-map}
+use Rattle.numbering.specs.Sets.{Ascends}
+use Rattle.numbering.specs.Numbering.{first_alike, the_retained}
 use Rattle.numbering.proofs.Walking.{pairs-kept}
-use Rattle.numbering.proofs.Whole.{whole-matched, whole-earliest, settle, lend, matched-few, paired, retained-up, retained-few, retained-settled, targets, whole-numbering}
+use Rattle.numbering.proofs.Whole.{settled-earliest, lent_pairs, whole_walk, retained-up, retained-few, retained-settled, targets, whole-numbering}
 use Rattle.numbering.proofs.number.number_sets.Goals as goal
 
 pub prune_langsys-requires : goal.prune_langsys-requires
 prune_langsys-requires g c =
     let r = g.S.Source.reading c.args.source.now in
-    let ls = c.args.lookups.now in
-    let fs = c.args.features.now in
-    let A = c.prune_features-survived.new.out in
-    let B = c.find_duplicate_features-matched.new.out in
-    let k = c.prune_features-survived.result in
-    let j = c.find_duplicate_features-matched.result in
-    let alive = c.prune_features-survived.ensures.list in
     let found = c.find_duplicate_features-matched.ensures in
-    let mm = whole-matched r ls fs A B k j alive found.count found.front in
-    let ee = whole-earliest r ls fs A B k j alive found.list in
-    record { paired = lend r ls fs A B j mm ee Paired (paired r ls fs c.requires.features c.requires.few_features); room = lend r ls fs A B j mm ee (λ ms _. length ms ≤ 512) (matched-few r ls fs c.requires.features c.requires.few_features); tags = c.requires.scripts }
+    let lent = lent_pairs r _ _ _ _ _ _ c.requires.features c.requires.few_features c.prune_features-survived.ensures.list found.count found.front found.list in
+    record { paired = lent; room = lent.few; tags = c.requires.scripts }
 
 pub returns-in_err-paired : goal.returns-in_err-paired
 returns-in_err-paired g c =
     let r = g.S.Source.reading c.args.source.now in
-    let ls = c.args.lookups.now in
-    let fs = c.args.features.now in
-    let ts = map code_of c.args.scripts.now in
-    let A = c.prune_features-survived.new.out in
-    let B = c.find_duplicate_features-matched.new.out in
-    let k = c.prune_features-survived.result in
-    let j = c.find_duplicate_features-matched.result in
-    let alive = c.prune_features-survived.ensures.list in
     let found = c.find_duplicate_features-matched.ensures in
-    let mm = whole-matched r ls fs A B k j alive found.count found.front in
-    let ee = whole-earliest r ls fs A B k j alive found.list in
-    let start = lend r ls fs A B j mm ee (λ ms _. Agrees ms c.new-context.result no_walk) (c.new-context.ensures (the_matched r ls fs) (matched-few r ls fs c.requires.features c.requires.few_features)) in
-    let full = c.in_err-paired.ensures no_walk start in
+    let full = whole_walk r _ _ _ _ _ _ c.requires.features c.requires.few_features c.prune_features-survived.ensures.list found.count found.front found.list (map code_of c.args.scripts.now) _ c.new-context.ensures (λ _ w. (c.in_err-paired.field-0.0 ≡ TooManyPairs) × (2048 < length w.pairs)) c.in_err-paired.ensures in
     let p = err_from_is_err_and c.from_residual.result c.from_residual.ensures.1 in
-    rw (p.1, p.2)
-    (full.0, settle r ls fs A B j mm ee (λ ms es. 2048 < length (walk_scripts (lookup_beside eqb ms es) ts 0 (listed r.scripts) no_walk).pairs) full.1)
+    rw (p.1, p.2) full
 
 pub slice_bounds-remap_feature_indices-end : goal.slice_bounds-remap_feature_indices-end
 slice_bounds-remap_feature_indices-end g c =
@@ -53,19 +32,11 @@ slice_bounds-remap_feature_indices-end g c =
     let ls = c.args.lookups.now in
     let fs = c.args.features.now in
     let ts = map code_of c.args.scripts.now in
-    let A = c.prune_features-survived.new.out in
-    let B = c.find_duplicate_features-matched.new.out in
-    let k = c.prune_features-survived.result in
-    let j = c.find_duplicate_features-matched.result in
-    let alive = c.prune_features-survived.ensures.list in
     let found = c.find_duplicate_features-matched.ensures in
-    let mm = whole-matched r ls fs A B k j alive found.count found.front in
-    let ee = whole-earliest r ls fs A B k j alive found.list in
-    let start = lend r ls fs A B j mm ee (λ ms _. Agrees ms c.new-context.result no_walk) (c.new-context.ensures (the_matched r ls fs) (matched-few r ls fs c.requires.features c.requires.few_features)) in
     let self = c.prune_langsys.new.self in
     let out = c.prune_langsys.new.out in
     let count = c.in_ok-paired.count in
-    let walked = settle r ls fs A B j mm ee (λ ms es. Walked ms (walk_scripts (lookup_beside eqb ms es) ts 0 (listed r.scripts) no_walk) self out c.in_ok-paired.paired count) (c.in_ok-paired.ensures no_walk start) in
+    let walked = whole_walk r ls fs _ _ _ _ c.requires.features c.requires.few_features c.prune_features-survived.ensures.list found.count found.front found.list ts _ c.new-context.ensures (λ ms w. Walked ms w self out c.in_ok-paired.paired count) c.in_ok-paired.ensures in
     omega (arith, walked.2, retained-few r ls fs c.requires.features c.requires.few_features ts, c.prune_langsys.auto.out)
 
 pub remap_feature_indices-own-requires : goal.remap_feature_indices-own-requires
@@ -74,19 +45,11 @@ remap_feature_indices-own-requires g c =
     let ls = c.args.lookups.now in
     let fs = c.args.features.now in
     let ts = map code_of c.args.scripts.now in
-    let A = c.prune_features-survived.new.out in
-    let B = c.find_duplicate_features-matched.new.out in
-    let k = c.prune_features-survived.result in
-    let j = c.find_duplicate_features-matched.result in
-    let alive = c.prune_features-survived.ensures.list in
     let found = c.find_duplicate_features-matched.ensures in
-    let mm = whole-matched r ls fs A B k j alive found.count found.front in
-    let ee = whole-earliest r ls fs A B k j alive found.list in
-    let start = lend r ls fs A B j mm ee (λ ms _. Agrees ms c.new-context.result no_walk) (c.new-context.ensures (the_matched r ls fs) (matched-few r ls fs c.requires.features c.requires.few_features)) in
     let self = c.prune_langsys.new.self in
     let out = c.prune_langsys.new.out in
     let count = c.in_ok-paired.count in
-    let walked = settle r ls fs A B j mm ee (λ ms es. Walked ms (walk_scripts (lookup_beside eqb ms es) ts 0 (listed r.scripts) no_walk) self out c.in_ok-paired.paired count) (c.in_ok-paired.ensures no_walk start) in
+    let walked = whole_walk r ls fs _ _ _ _ c.requires.features c.requires.few_features c.prune_features-survived.ensures.list found.count found.front found.list ts _ c.new-context.ensures (λ ms w. Walked ms w self out c.in_ok-paired.paired count) c.in_ok-paired.ensures in
     let rest : c.in_ok-paired.count - 0 ≡ c.in_ok-paired.count = omega arith in
     let same = ap (λ n. take n out) rest ∙ walked.3 in
     let size = ap length same in
@@ -98,19 +61,11 @@ invariant_of-result-3 g c =
     let ls = c.args.lookups.now in
     let fs = c.args.features.now in
     let ts = map code_of c.args.scripts.now in
-    let A = c.prune_features-survived.new.out in
-    let B = c.find_duplicate_features-matched.new.out in
-    let k = c.prune_features-survived.result in
-    let j = c.find_duplicate_features-matched.result in
-    let alive = c.prune_features-survived.ensures.list in
     let found = c.find_duplicate_features-matched.ensures in
-    let mm = whole-matched r ls fs A B k j alive found.count found.front in
-    let ee = whole-earliest r ls fs A B k j alive found.list in
-    let start = lend r ls fs A B j mm ee (λ ms _. Agrees ms c.new-context.result no_walk) (c.new-context.ensures (the_matched r ls fs) (matched-few r ls fs c.requires.features c.requires.few_features)) in
     let self = c.prune_langsys.new.self in
     let out = c.prune_langsys.new.out in
     let count = c.in_ok-paired.count in
-    let walked = settle r ls fs A B j mm ee (λ ms es. Walked ms (walk_scripts (lookup_beside eqb ms es) ts 0 (listed r.scripts) no_walk) self out c.in_ok-paired.paired count) (c.in_ok-paired.ensures no_walk start) in
+    let walked = whole_walk r ls fs _ _ _ _ c.requires.features c.requires.few_features c.prune_features-survived.ensures.list found.count found.front found.list ts _ c.new-context.ensures (λ ms w. Walked ms w self out c.in_ok-paired.paired count) c.in_ok-paired.ensures in
     record { fits = omega (arith, walked.2, retained-few r ls fs c.requires.features c.requires.few_features ts) }
 
 pub invariant_of-result-5 : goal.invariant_of-result-5
@@ -119,19 +74,11 @@ invariant_of-result-5 g c =
     let ls = c.args.lookups.now in
     let fs = c.args.features.now in
     let ts = map code_of c.args.scripts.now in
-    let A = c.prune_features-survived.new.out in
-    let B = c.find_duplicate_features-matched.new.out in
-    let k = c.prune_features-survived.result in
-    let j = c.find_duplicate_features-matched.result in
-    let alive = c.prune_features-survived.ensures.list in
     let found = c.find_duplicate_features-matched.ensures in
-    let mm = whole-matched r ls fs A B k j alive found.count found.front in
-    let ee = whole-earliest r ls fs A B k j alive found.list in
-    let start = lend r ls fs A B j mm ee (λ ms _. Agrees ms c.new-context.result no_walk) (c.new-context.ensures (the_matched r ls fs) (matched-few r ls fs c.requires.features c.requires.few_features)) in
     let self = c.prune_langsys.new.self in
     let out = c.prune_langsys.new.out in
     let count = c.in_ok-paired.count in
-    let walked = settle r ls fs A B j mm ee (λ ms es. Walked ms (walk_scripts (lookup_beside eqb ms es) ts 0 (listed r.scripts) no_walk) self out c.in_ok-paired.paired count) (c.in_ok-paired.ensures no_walk start) in
+    let walked = whole_walk r ls fs _ _ _ _ c.requires.features c.requires.few_features c.prune_features-survived.ensures.list found.count found.front found.list ts _ c.new-context.ensures (λ ms w. Walked ms w self out c.in_ok-paired.paired count) c.in_ok-paired.ensures in
     record { fits = omega (arith, walked.1, pairs-kept walked.0, walked.0.filled) }
 
 pub returns : goal.returns
@@ -140,19 +87,11 @@ returns g c =
     let ls = c.args.lookups.now in
     let fs = c.args.features.now in
     let ts = map code_of c.args.scripts.now in
-    let A = c.prune_features-survived.new.out in
-    let B = c.find_duplicate_features-matched.new.out in
-    let k = c.prune_features-survived.result in
-    let j = c.find_duplicate_features-matched.result in
-    let alive = c.prune_features-survived.ensures.list in
     let found = c.find_duplicate_features-matched.ensures in
-    let mm = whole-matched r ls fs A B k j alive found.count found.front in
-    let ee = whole-earliest r ls fs A B k j alive found.list in
-    let start = lend r ls fs A B j mm ee (λ ms _. Agrees ms c.new-context.result no_walk) (c.new-context.ensures (the_matched r ls fs) (matched-few r ls fs c.requires.features c.requires.few_features)) in
     let self = c.prune_langsys.new.self in
     let out = c.prune_langsys.new.out in
     let count = c.in_ok-paired.count in
-    let walked = settle r ls fs A B j mm ee (λ ms es. Walked ms (walk_scripts (lookup_beside eqb ms es) ts 0 (listed r.scripts) no_walk) self out c.in_ok-paired.paired count) (c.in_ok-paired.ensures no_walk start) in
+    let walked = whole_walk r ls fs _ _ _ _ c.requires.features c.requires.few_features c.prune_features-survived.ensures.list found.count found.front found.list ts _ c.new-context.ensures (λ ms w. Walked ms w self out c.in_ok-paired.paired count) c.in_ok-paired.ensures in
     let rs = the_retained r ls fs ts in
     let f = first_alike r ls fs in
     let whole : c.find_duplicate_features-matched.result - 0 ≡ c.find_duplicate_features-matched.result = omega arith in
@@ -160,11 +99,11 @@ returns g c =
     let same = ap (λ n. take n out) rest ∙ walked.3 in
     let size : length (take (c.in_ok-paired.count - 0) c.prune_langsys.new.out) ≡ c.in_ok-paired.count = ap length same ∙ sym walked.2 in
     let tg = c.choose.new.out in
-    let chose = ap (chosen self.named) (ap (λ n. take n B) whole ∙ ee) ∙ targets r ls fs c.requires.features c.requires.few_features ts self walked.0 in
+    let chose = ap (chosen self.named) (ap (λ n. take n c.find_duplicate_features-matched.new.out) whole ∙ (settled-earliest r ls fs _ _ _ _ c.requires.features c.requires.few_features c.prune_features-survived.ensures.list found.count found.front found.list)) ∙ targets r ls fs c.requires.features c.requires.few_features ts self walked.0 in
     let many = c.choose.ensures.count ∙ (ap length chose ∙ length-map rs f) in
     let lent = subst (λ xs. take (length xs) tg ≡ map f xs) (sym same) (ap (λ n. take n tg) (sym many) ∙ (c.choose.ensures.list ∙ chose)) in
     let settled = subst (λ xs. Settled xs f) (sym same) (retained-settled r ls fs c.requires.features c.requires.few_features ts) in
-    whole-numbering r ls fs c.requires.features c.requires.few_features ts _ alive ee walked.3
+    whole-numbering r ls fs c.requires.features c.requires.few_features ts _ c.prune_features-survived.ensures.list (settled-earliest r ls fs _ _ _ _ c.requires.features c.requires.few_features c.prune_features-survived.ensures.list found.count found.front found.list) walked.3
     (ap (λ n. take n c.remap_feature_indices-own.new.numbers) (sym size) ∙ (c.remap_feature_indices-own.ensures.list f lent settled ∙ ap (λ xs. map (number xs f) xs) same))
     (c.remap_feature_indices-own.ensures.count f lent settled ∙ ap (λ xs. length (owners xs f)) same)
     (ap (λ n. take n self.pairs) (walked.1 ∙ sym (pairs-kept walked.0)) ∙ walked.0.pairs)
