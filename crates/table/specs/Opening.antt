@@ -1,6 +1,5 @@
 -- Which bytes are taken for a table, and which refusal the others get.
---   refusal     of bytes: 1 for more than 65,535, else 2 for a header that is short or of another major version
---   opened      what an opening answers, as the kind and the bytes that the table holds, or the refusal
+--   refusal     of bytes: too large for more than 65,535, else bad for a header that is short or of another major version
 use Rattle.std.specs.Prelude.{ℕ, cond, List, length, Some, None, Option, nat_le}
 use Rattle.source.specs.declared.refusals.Refusal.{Refusal}
 use Rattle.source.specs.declared.refusals.Refusal.TheVariants.{SourceTooLarge, BadHeader}

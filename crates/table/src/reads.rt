@@ -4,7 +4,7 @@ ghost use Rattle.source.specs.Standings.{mapped};
 ghost use Rattle.source.specs.Questions.{params_meaning};
 ghost use Rattle.table.specs.Format.{lang_sys_layout, feature_layout, condition_set_layout, substitution_layout, condition_by_format, condition_entry_at, listed_params, params_at, alternate_params};
 ghost use Rattle.source.specs.declared.parts.Standing.TheVariants.{Absent};
-ghost use Rattle.table.specs.Places.{Small, Inside, InsideVariations, entry_of, params_of_place, lang_sys_fields, variations_fields, substitution_fields};
+ghost use Rattle.table.specs.Places.{Inside, InsideVariations, entry_of, params_of_place, lang_sys_fields, variations_fields, substitution_fields};
 
 use crate::fields::{u16_at, u32_at};
 use crate::layouts::{CONDITION_SET, LIST};
