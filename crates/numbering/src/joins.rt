@@ -2,7 +2,7 @@
 ghost use Rattle.std.specs.Option.{MatchOption};
 ghost use Rattle.numbering.specs.Joins.{Joinable, Joined};
 
-use crate::matches::find_duplicates_by_scan;
+use crate::matches::find_duplicate_features;
 use crate::sets::is_ascending;
 use crate::survivors::prune_features;
 use source::Source;
@@ -32,7 +32,7 @@ pub fn join_features<S: Source>(
         return None;
     }
     let count = prune_features(source, lookups, features, survivors);
-    let matched = find_duplicates_by_scan(source, lookups, &survivors[0..count], earliest);
+    let matched = find_duplicate_features(source, lookups, &survivors[0..count], earliest);
     Some(Joins {
         survivors: count,
         matched,

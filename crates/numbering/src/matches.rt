@@ -109,9 +109,9 @@ fn earliest_match<S: Source>(
     i
 }
 
-// Writes the earliest match of each survivor, and answers how many have one: the first survivor that cannot be read
-// and all later ones have none.
-pub(crate) fn find_duplicate_features<S: Source>(
+// Writes the earliest match of each of at most 512 survivors, as `find_duplicate_features` does, and compares each with
+// those of its bucket alone.
+pub(crate) fn find_duplicates_in_buckets<S: Source>(
     source: &S,
     lookups: &[u16],
     survivors: &[u16],
@@ -151,9 +151,9 @@ fn first_alike<S: Source>(source: &S, lookups: &[u16], seen: &[u16], i: u16) -> 
     i
 }
 
-// Writes the earliest match of each survivor, as `find_duplicate_features` does, of any number of survivors: each is
-// compared with those before it.
-pub(crate) fn find_duplicates_by_scan<S: Source>(
+// Writes the earliest match of each survivor, and answers how many have one: the first survivor that cannot be read
+// and all later ones have none.
+pub(crate) fn find_duplicate_features<S: Source>(
     source: &S,
     lookups: &[u16],
     survivors: &[u16],

@@ -4,7 +4,7 @@ ghost use Rattle.numbering.specs.Systems.{code_of};
 ghost use Rattle.numbering.specs.Numbering.{Kept, Answered, NumberedOrNot};
 
 use crate::indices::Indices;
-use crate::matches::find_duplicate_features;
+use crate::matches::find_duplicates_in_buckets;
 use crate::pairs::Pairs;
 use crate::remap::remap_feature_indices;
 use crate::sets::are_kept_sets;
@@ -46,7 +46,12 @@ fn number_sets<S: Source>(
     let mut survivors = [0; 512];
     let mut earliest = [0; 512];
     let survived = prune_features(source, lookups, features, &mut survivors);
-    let matched = find_duplicate_features(source, lookups, &survivors[0..survived], &mut earliest);
+    let matched = find_duplicates_in_buckets(
+        source,
+        lookups,
+        &survivors[0..survived],
+        &mut earliest,
+    );
     let mut context = PruneLangSysContext::new();
     let mut retained = [0; 512];
     let mut targets = [0; 512];

@@ -12,10 +12,10 @@ returns g c =
     let list = c.prune_features-count.ensures.list in
     let whole : c.prune_features-count.result - 0 ≡ c.prune_features-count.result = omega arith in
     let cut = ap (λ k. take k vs) whole in
-    let found = c.find_duplicates_by_scan-matched.ensures in
-    let below : c.find_duplicates_by_scan-matched.result ≤ c.prune_features-count.result - 0 = omega (arith, found.count, length-take (n - 0) vs) in
+    let found = c.find_duplicate_features-matched.ensures in
+    let below : c.find_duplicate_features-matched.result ≤ c.prune_features-count.result - 0 = omega (arith, found.count, length-take (n - 0) vs) in
     record {
       surviving = list;
-      matching = sym (take-take c.find_duplicates_by_scan-matched.result (n - 0) vs below) ∙ (found.front ∙ ap (matched r) (cut ∙ list));
+      matching = sym (take-take c.find_duplicate_features-matched.result (n - 0) vs below) ∙ (found.front ∙ ap (matched r) (cut ∙ list));
       earliest_matches = found.list ∙ ap (earliest_of r ls) (cut ∙ list);
     }

@@ -1,10 +1,10 @@
-use Rattle.std.proofs.Common.{◌≡◌, ◌≢◌, length, get_or, take, sym, ap, ◌∙◌, arith, below_more}
+use Rattle.std.proofs.Common.{◌≡◌, ◌-◌, ◌≢◌, length, get_or, take, sym, ap, ◌∙◌, arith, below_more}
 use Rattle.std.proofs.lemmas.List.{get_or-set_same, get_or-set_other}
 use Rattle.source.specs.declared.parts.FeaturePlace.TheVariants.{Listed}
 use Rattle.source.specs.Standings.{mapped}
 use Rattle.source.specs.Reading.{FeatureTable}
 use Rattle.source.specs.Questions.{feature}
-use Rattle.numbering.specs.Chains.{bucket_in}
+use Rattle.numbering.specs.Stages.{earliest}
 use Rattle.numbering.proofs.Members.{there-mapped}
 use Rattle.numbering.proofs.Matching.{matched-more, matched-ends, matched-all, all-earliest}
 use Rattle.numbering.proofs.matches.find_duplicate_features.Goals as goal
@@ -20,20 +20,17 @@ returns-in_default g c =
       list = all-earliest r c.args.lookups.now vs c.loop-v.out c.loop-v.v (omega arith) (omega arith) ends c.loop-v.invariant.1;
     }
 
-pub earliest_match-requires : goal.earliest_match-requires
-earliest_match-requires g c = record { lookups = c.requires.ascends; place = c.loop-v-test.true; slot = omega arith; written = omega arith; chains = c.loop-v.invariant.2; bucket = c.bucket_of-bucket.ensures.value; below = c.bucket_of-bucket.ensures.below; known = c.loop-v.invariant.1 }
-
 pub loop-v-preserved : goal.loop-v-preserved
 loop-v-preserved g c =
     let r = g.S.Source.reading c.args.source.now in
     let vs = c.args.survivors.now in
     let out = c.loop-v.out in
     let v = c.loop-v.v in
+    let whole : c.loop-v.v - 0 ≡ c.loop-v.v = omega arith in
     let at = there-mapped (λ (x : FeatureTable). length x.lookups) (feature r (Listed (get_or vs v 0))) c.in-There.field-0 c.in-There.ensures in (
       matched-more r vs v c.loop-v-test.true at.0 at.1 c.loop-v.invariant.0,
-      below_more _ _ (λ k h. let apart : k ≢ v = omega arith in get_or-set_other out v k c.earliest_match.result 0 apart ∙ c.loop-v.invariant.1 k h)
-          (get_or-set_same out v c.earliest_match.result 0 (omega arith) ∙ c.earliest_match.ensures),
-      c.add.ensures (λ p. bucket_in r c.args.lookups.now (get_or vs p 0)) c.loop-v.invariant.2 (sym c.bucket_of-bucket.ensures.value),
+      below_more _ _ (λ k h. let apart : k ≢ v = omega arith in get_or-set_other out v k c.first_alike.result 0 apart ∙ c.loop-v.invariant.1 k h)
+          (get_or-set_same out v c.first_alike.result 0 (omega arith) ∙ (c.first_alike.ensures ∙ ap (λ n. earliest r c.args.lookups.now (take n vs) (get_or vs v 0)) whole)),
     )
 
 pub returns : goal.returns
