@@ -405,7 +405,7 @@ def compare(hub, folder, path, kind):
 
 def main():
     words = argparse.ArgumentParser(description=__doc__, formatter_class=argparse.RawDescriptionHelpFormatter)
-    words.add_argument("--hub", default=os.path.join(os.path.dirname(os.path.abspath(__file__)), "../target/bin/hub"))
+    words.add_argument("--hub", default=os.path.join(os.path.dirname(os.path.abspath(__file__)), "../crates/hub/out/hub"))
     words.add_argument("--made", action="store_true")
     words.add_argument("files", nargs="*")
     words = words.parse_args()

@@ -181,7 +181,7 @@ pub record Assigns (p : ℕ) (b w w' : List ℕ) (s : Serializer) (c : Counts) :
   pub kept : Kept (start_at s (c.depth - 1)) w s w' s
 
 abbrev pub Assigned : ℕ → List ℕ → List ℕ → List ℕ → Serializer → Counts → Result Unit Fault → Type 0
-Assigned p b w w' s c r = MatchResult r (λ _. Assigns p b w w' s c) (λ f. (f ≡ Work) × ((c.depth ≡ 0) ⊎ (c.head - (start_at s (c.depth - 1)).head < p + length b)) × (w' ≡ w))
+Assigned p b w w' s c r = MatchResult r (λ _. Assigns p b w w' s c) (λ f. (f ≡ Work) × (c.head - (start_at s (c.depth - 1)).head < p + length b) × (w' ≡ w))
 
 -- Bytes packed as an object of their own, without links: the open objects are as before.
 pub record Copies (b w w' : List ℕ) (s s' : Serializer) (c c' : Counts) (k : ℕ) : Type 0 where

@@ -1,4 +1,5 @@
 // Bytes of the open object written over.
+ghost use Rattle.std.specs.Prelude.{◌≡◌, ◌<◌, IsErrOf};
 ghost use Rattle.serialize.specs.Tables.{Sound};
 ghost use Rattle.serialize.specs.Calls.{Assigned};
 
@@ -15,7 +16,8 @@ impl Serializer {
         position: u32,
         bytes: &[u8],
     ) -> Result<(), Fault>
-        ensures assigned { Sound work.old self.now counts → Assigned position bytes.now work.old work.new self.now counts result }
+        ensures assigned { Sound work.old self.now counts → 0 < counts.depth → Assigned position bytes.now work.old work.new self.now counts result }
+        ensures unopened { Sound work.old self.now counts → counts.depth ≡ 0 → IsErrOf result Fault.Work × (work.new ≡ work.old) }
     {
         let Some(top) = self.top_size(counts) else {
             return Err(Fault::Work);
@@ -38,7 +40,8 @@ impl Serializer {
         position: u32,
         value: S,
     ) -> Result<(), Fault>
-        ensures assigned { Sound work.old self.now counts → Assigned position (S.code value) work.old work.new self.now counts result }
+        ensures assigned { Sound work.old self.now counts → 0 < counts.depth → Assigned position (S.code value) work.old work.new self.now counts result }
+        ensures unopened { Sound work.old self.now counts → counts.depth ≡ 0 → IsErrOf result Fault.Work × (work.new ≡ work.old) }
     {
         let (raw, size) = value.raw();
         self.copy_assign_from_bytes(work, counts, position, &raw[0..size])
