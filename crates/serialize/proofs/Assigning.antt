@@ -74,7 +74,6 @@ module _ (p : ℕ) (b w w' : List ℕ) (s : Serializer) (c : Counts) (sound : So
   assigns some within is =
       let a = assigns-at c.depth refl sound.stacked some within is in
       record {
-        opened = some;
         within = within;
         work = is;
         sound = record { shallow = sound.shallow; frames = sound.frames; entries = sound.entries; hashes = sound.hashes; links = sound.links; base = a.0; stacked = a.1 };

@@ -7,7 +7,7 @@ use Rattle.serialize.specs.declared.faults.Fault.{Fault}
 use Rattle.serialize.specs.declared.faults.Fault.TheVariants.{Work}
 use Rattle.serialize.specs.Objects.{Object, Stands, Absent}
 use Rattle.serialize.specs.Tables.{Sink, start_at, sink_of, Sound, Kept}
-use Rattle.serialize.specs.Calls.{Before, SameOpen, top, embedded, opened, Pushes, Embeds, Packs, Full, Discards, TakenBack, Copies, Uncopied}
+use Rattle.serialize.specs.Calls.{Before, SameOpen, top, embedded, opened, Pushes, Embeds, Packs, Full, Discards, TakenBack, Copies, Shared, Uncopied}
 use Rattle.serialize.proofs.Marking.{kept_trans, kept-earlier, sound-kept}
 
 module _ (w : List ℕ) (s s₁ : Serializer) (c c₁ : Counts) (t : Token) (sound : Sound w s c) (p : Pushes w s s₁ c c₁ t) where
@@ -54,14 +54,14 @@ module _ (w : List ℕ) (s s₁ : Serializer) (c c₁ : Counts) (t : Token) (sou
     absent : Absent (top (sink_of w₁ s₁ c₂)) (sink_of w₁ s₁ c₂).pool → Absent (record { bytes = b; links = [] }) (sink_of w s c).pool
     absent n = subst (λ (y : List Object). Absent (record { bytes = b; links = [] }) y) pool-full (subst (λ (y : Object). Absent y (sink_of w₁ s₁ c₂).pool) top-full n)
 
-    pub copy-full : (w₂ : List ℕ) (s₂ : Serializer) (c' : Counts) (f : Fault) → Full w₁ w₂ s₁ s₂ c₂ c' f → Uncopied b w s c f × TakenBack w w₂ s s₂ c c'
+    pub copy-full : (w₂ : List ℕ) (s₂ : Serializer) (c' : Counts) (f : Fault) → Full w₁ w₂ s₁ s₂ c₂ c' f → TakenBack w w₂ s s₂ c c' × Uncopied b w s c f
     copy-full w₂ s₂ c' f h =
         let is : c' ≡ c = h.gone.counts ∙ start_is c₂.depth depth₂ in
         let k = sound-kept c c₂ w w₁ s s₁ sound e.sound first in
         let back : TakenBack w w₁ s s₁ c c = record { counts = refl; sound = k.0; sink = k.1; kept = first } in
-        (inr (h.fault, inr (sym (ap length pool-full) ∙ h.full, absent h.new)), subst (λ (x : Counts). TakenBack w w₂ s s₂ c x) (sym is) (subst (λ (y : List ℕ). TakenBack w y s s₂ c c) (sym h.work) (subst (λ (z : Serializer). TakenBack w w₁ s z c c) (sym h.tables) back)))
+        (subst (λ (x : Counts). TakenBack w w₂ s s₂ c x) (sym is) (subst (λ (y : List ℕ). TakenBack w y s s₂ c c) (sym h.work) (subst (λ (z : Serializer). TakenBack w w₁ s z c c) (sym h.tables) back)), inr (h.fault, inr (sym (ap length pool-full) ∙ h.full, absent h.new)))
 
-    pub copy-packed : (w₂ : List ℕ) (s₂ : Serializer) (c' : Counts) (k : ℕ) → Packs w₁ w₂ s₁ s₂ c₂ c' k → Copies b w w₂ s s₂ c c' k
+    pub copy-packed : (w₂ : List ℕ) (s₂ : Serializer) (c' : Counts) (k : ℕ) → Packs w₁ w₂ s₁ s₂ c₂ c' k → Copies b w w₂ s s₂ c c' k × Shared (record { bytes = b; links = [] }) (sink_of w s c).pool (sink_of w₂ s₂ c').pool k
     copy-packed w₂ s₂ c' k h =
         let x : Object = record { bytes = b; links = [] } in
         let tx = top-full in
@@ -69,16 +69,19 @@ module _ (w : List ℕ) (s s₁ : Serializer) (c c₁ : Counts) (t : Token) (sou
         let pl = pool-full in
         let rest : drop 1 (sink_of w₁ s₁ c₂).stack ≡ (sink_of w s c).stack = ap (drop 1) st in
         let kc : Kept c w₁ s₁ w₂ s₂ = subst (λ (y : Counts). Kept y w₁ s₁ w₂ s₂) (start_is c₂.depth depth₂) h.kept in
-        record {
-          sound = h.sound;
-          stands = subst (λ (y : Object). Stands y (sink_of w₂ s₂ c').pool k) tx h.stands;
-          stack = ⊎_elim (λ q. ap (λ (y : Sink). y.stack) q.1 ∙ rest) (λ q. ap (λ (y : Sink). y.stack) q.2 ∙ rest) h.sink;
-          pool =
-              ⊎_elim
-              (λ q. inl (subst (λ (y : List Object). Stands x y k) pl (subst (λ (y : Object). Stands y (sink_of w₁ s₁ c₂).pool k) tx q.0), ap (λ (y : Sink). y.pool) q.1 ∙ pl))
-              (λ q. inr (absent q.0, q.1 ∙ ap length pl, ap (λ (y : Sink). y.pool) q.2 ∙ ap (λ (y : Object). y ∷ (sink_of w₁ s₁ c₂).pool) tx ∙ ap (λ (y : List Object). x ∷ y) pl))
-              h.sink;
-          before = subst (λ (y : Counts). Before y c') (start_is c₂.depth depth₂) h.before;
-          same = subst (λ (y : Counts). SameOpen y c') (start_is c₂.depth depth₂) h.same;
-          kept = kept_trans c w w₁ w₂ s s₁ s₂ first kc;
-        }
+        let shared : Shared x (sink_of w s c).pool (sink_of w₂ s₂ c').pool k =
+        ⊎_elim
+        (λ q. inl (subst (λ (y : List Object). Stands x y k) pl (subst (λ (y : Object). Stands y (sink_of w₁ s₁ c₂).pool k) tx q.0), ap (λ (y : Sink). y.pool) q.1 ∙ pl))
+        (λ q. inr (absent q.0, q.1 ∙ ap length pl, ap (λ (y : Sink). y.pool) q.2 ∙ ap (λ (y : Object). y ∷ (sink_of w₁ s₁ c₂).pool) tx ∙ ap (λ (y : List Object). x ∷ y) pl))
+        h.sink in (
+          record {
+            sound = h.sound;
+            stands = subst (λ (y : Object). Stands y (sink_of w₂ s₂ c').pool k) tx h.stands;
+            stack = ⊎_elim (λ q. ap (λ (y : Sink). y.stack) q.1 ∙ rest) (λ q. ap (λ (y : Sink). y.stack) q.2 ∙ rest) h.sink;
+            pool = ⊎_elim (λ q. inl q.1) (λ q. inr q.2) shared;
+            before = subst (λ (y : Counts). Before y c') (start_is c₂.depth depth₂) h.before;
+            same = subst (λ (y : Counts). SameOpen y c') (start_is c₂.depth depth₂) h.same;
+            kept = kept_trans c w w₁ w₂ s s₁ s₂ first kc;
+          },
+          shared,
+        )

@@ -10,7 +10,7 @@ use Rattle.std.specs.List.{between}
 use Rattle.std.proofs.lemmas.Bool.{cases_order}
 use Rattle.serialize.specs.Objects.{width_of, last_end, Fields}
 use Rattle.serialize.specs.Tables.{start_at, sink_of, Sound, Kept}
-use Rattle.serialize.specs.Calls.{Before, embedded, linked, Takes, Embeds, Links, Unlinked, Offsets, TakenBack, OffsetAdded}
+use Rattle.serialize.specs.Calls.{Before, embedded, linked, Takes, Embeds, Links, Unlinked, Fits, Offsets, TakenBack, OffsetAdded, OffsetAnswered}
 use Rattle.std.proofs.lemmas.List.{length-replicate}
 use Rattle.serialize.proofs.Parts.{drop-same, take_same}
 use Rattle.serialize.proofs.Embeds.{longer}
@@ -76,7 +76,7 @@ module _ (v : Width) (t : ℕ) (w w' : List ℕ) (s s' : Serializer) (c : Counts
       let lb : length b ≡ width_of v = ap length zeros ∙ length-replicate (width_of v) 0 in
       (lb, e.counts ∙ ap (λ n. longer c n) lb)
 
-  pub offset-refused : (c₁ c₂ c' : Counts) (b : List ℕ) (r : Result Unit Fault) (f : Fault) → r ≡ Err f → c' ≡ c → Embeds b w w' s c c₁ → b ≡ replicate (width_of v) 0 → Unlinked (record { position = p; target = t; width = v }) s s' c₁ c₂ f → OffsetAdded v t w w' s s' c c' r
+  pub offset-refused : (c₁ c₂ c' : Counts) (b : List ℕ) (r : Result Unit Fault) (f : Fault) → r ≡ Err f → c' ≡ c → Embeds b w w' s c c₁ → b ≡ replicate (width_of v) 0 → Unlinked (record { position = p; target = t; width = v }) s s' c₁ c₂ f → OffsetAdded v t w w' s s' c c' r × OffsetAnswered v t c r
   offset-refused c₁ c₂ c' b r f is back e zeros u =
       let q = field-counts c₁ b e zeros in
       let h : c₁.lhead ≡ c.lhead = ap (λ (d : Counts). d.lhead) q.1 in
@@ -85,26 +85,29 @@ module _ (v : Width) (t : ℕ) (w w' : List ℕ) (s s' : Serializer) (c : Counts
       let also : Sound w' s' c₁ = subst (λ (y : Serializer). Sound w' y c₁) (sym u.tables) e.sound in
       let k : Kept c w s w' s' = subst (λ (y : Serializer). Kept c w s w' y) (sym u.tables) e.kept in
       let z = sound-kept c c₁ w w' s s' sound also k in
-      subst (λ (y : Result Unit Fault). OffsetAdded v t w w' s s' c c' y) (sym is) (inr (u.fault, inr why), subst (λ (d : Counts). TakenBack w w' s s' c d) (sym back) (record { counts = refl; sound = z.0; sink = z.1; kept = k }))
+      subst (λ (y : Result Unit Fault). OffsetAdded v t w w' s s' c c' y × OffsetAnswered v t c y) (sym is) (subst (λ (d : Counts). TakenBack w w' s s' c d) (sym back) (record { counts = refl; sound = z.0; sink = z.1; kept = k }), inr (u.fault, inr why))
 
-  pub offset-added : (c₁ c₂ c' : Counts) (b : List ℕ) → Embeds b w w' s c c₁ → b ≡ replicate (width_of v) 0 → Links (record { position = p; target = t; width = v }) w' s s' c₁ c₂ → c' ≡ c₂ → Offsets v t w w' s s' c c'
+  pub offset-added : (c₁ c₂ c' : Counts) (b : List ℕ) → Embeds b w w' s c c₁ → b ≡ replicate (width_of v) 0 → Links (record { position = p; target = t; width = v }) w' s s' c₁ c₂ → c' ≡ c₂ → Offsets v t w w' s s' c c' × Fits v t c
   offset-added c₁ c₂ c' b e zeros l is =
       let q = field-counts c₁ b e zeros in
       let h : c₁.lhead ≡ c.lhead = ap (λ (d : Counts). d.lhead) q.1 in
       let lt : c₁.ltail ≡ c.ltail = ap (λ (d : Counts). d.ltail) q.1 in
       let o : c₁.objects ≡ c.objects = ap (λ (d : Counts). d.objects) q.1 in
       let before : Before c c₁ = subst (λ (d : Counts). Before c d) (sym q.1) (record { heads = omega arith; tails = omega arith; link_heads = omega arith; link_tails = omega arith; more = omega arith; depths = omega arith }) in
-      let k : Kept c w s w' s' = kept_trans c w w' w' s s s' e.kept (kept-earlier c c₁ w' w' s s' before l.kept) in
-      subst (λ (d : Counts). Offsets v t w w' s s' c d) (sym is) (record {
-        opened = some;
-        room = omega (arith, q.0, e.room);
-        spare = omega (arith, l.room);
-        target = omega (arith, (fields-last 0 _ (record { position = p; target = t; width = v }) _ _ l.takes.1).1);
-        counts = l.counts ∙ ap linked-counts q.1;
-        sound = l.sound;
-        sink = l.sink ∙ ap (linked (record { position = p; target = t; width = v })) (e.sink ∙ ap (λ (y : List ℕ). embedded y (sink_of w s c)) zeros) ∙ ap (λ n. linked (record { position = n; target = t; width = v }) (embedded (replicate (width_of v) 0) (sink_of w s c))) at;
-        kept = k;
-      })
+      let k : Kept c w s w' s' = kept_trans c w w' w' s s s' e.kept (kept-earlier c c₁ w' w' s s' before l.kept) in (
+        subst (λ (d : Counts). Offsets v t w w' s s' c d) (sym is) (record {
+          counts = l.counts ∙ ap linked-counts q.1;
+          sound = l.sound;
+          sink = l.sink ∙ ap (linked (record { position = p; target = t; width = v })) (e.sink ∙ ap (λ (y : List ℕ). embedded y (sink_of w s c)) zeros) ∙ ap (λ n. linked (record { position = n; target = t; width = v }) (embedded (replicate (width_of v) 0) (sink_of w s c))) at;
+          kept = k;
+        }),
+        record {
+          opened = some;
+          room = omega (arith, q.0, e.room);
+          spare = omega (arith, l.room);
+          target = omega (arith, (fields-last 0 _ (record { position = p; target = t; width = v }) _ _ l.takes.1).1);
+        },
+      )
 
 pub zeros-are : (v : Width) (n : ℕ) → n ≡ width_of v → take {A = ℕ} (n - 0) (0 ∷ 0 ∷ 0 ∷ 0 ∷ []) ≡ replicate (width_of v) 0
 zeros-are Two n e = ap (λ k. take {A = ℕ} (k - 0) (0 ∷ 0 ∷ 0 ∷ 0 ∷ [])) e

@@ -10,7 +10,9 @@
 --   Packs .. k            the top object is packed under the number k, shared or new
 --   Full ..               no number is left for it, and it is dropped
 --   Offsets v t ..        a field of zeros and its link to the object t are added to the top object
+--   Fits v t c            the top object takes an offset to the object t; Unfit v t c f: it does not, for the reason f
 --   Copies b .. k         the bytes b are packed as an object of their own
+--   Uncopied b .. f       why they are not
 --   TakenBack ..          what the counts count is as before
 use Rattle.std.specs.Prelude.{◌≡◌, ℕ, ◌+◌, ◌-◌, ◌<◌, ◌≤◌, ◌⊎◌, List, [], ◌∷◌, ◌++◌, length, drop, replicate, Result, MatchResult, slice_index_or, slice_set}
 use Rattle.serialize.specs.declared.tables.Width.{Width}
@@ -144,10 +146,6 @@ TopSize s c n = (0 < c.depth) × (c.depth ≤ 8) × ((start_at s (c.depth - 1)).
 -- A field of zeros and its link are added to the top object; refused, the counts are as before, and so is what they
 -- count.
 pub record Offsets (v : Width) (t : ℕ) (w w' : List ℕ) (s s' : Serializer) (c c' : Counts) : Type 0 where
-  pub opened : 0 < c.depth
-  pub room : width_of v ≤ c.tail - c.head
-  pub spare : c.lhead < c.ltail
-  pub target : t < c.objects
   pub counts : c' ≡ record { head = c.head + width_of v; tail = c.tail; lhead = c.lhead + 1; ltail = c.ltail; objects = c.objects; depth = c.depth }
   pub sound : Sound w' s' c'
   pub sink : sink_of w' s' c' ≡ linked (record { position = c.head - (start_at s (c.depth - 1)).head; target = t; width = v }) (embedded (replicate (width_of v) 0) (sink_of w s c))
@@ -160,11 +158,21 @@ pub record TakenBack (w w' : List ℕ) (s s' : Serializer) (c c' : Counts) : Typ
   pub kept : Kept c w s w' s'
 
 -- why an offset is refused: no room for its field; else no object is open, no room for the link, or no such target
+pub record Fits (v : Width) (t : ℕ) (c : Counts) : Type 0 where
+  pub opened : 0 < c.depth
+  pub room : width_of v ≤ c.tail - c.head
+  pub spare : c.lhead < c.ltail
+  pub target : t < c.objects
+
 abbrev pub Unfit : Width → ℕ → Counts → Fault → Type 0
 Unfit v t c f = ((f ≡ Work) × (0 < c.depth) × (c.tail - c.head < width_of v)) ⊎ ((f ≡ Limit) × ((c.depth ≡ 0) ⊎ ((c.lhead ≡ c.ltail) ⊎ (c.objects ≤ t))))
 
 abbrev pub OffsetAdded : Width → ℕ → List ℕ → List ℕ → Serializer → Serializer → Counts → Counts → Result Unit Fault → Type 0
-OffsetAdded v t w w' s s' c c' r = MatchResult r (λ _. Offsets v t w w' s s' c c') (λ f. Unfit v t c f × TakenBack w w' s s' c c')
+OffsetAdded v t w w' s s' c c' r = MatchResult r (λ _. Offsets v t w w' s s' c c') (λ _. TakenBack w w' s s' c c')
+
+-- What each answer to an offset says of the counts.
+abbrev pub OffsetAnswered : Width → ℕ → Counts → Result Unit Fault → Type 0
+OffsetAnswered v t c r = MatchResult r (λ _. Fits v t c) (Unfit v t c)
 
 abbrev pub written : ℕ → List ℕ → Object → Object
 written p b o = record { bytes = paste o.bytes p b (length b); links = o.links }
@@ -173,7 +181,6 @@ abbrev pub assigned : ℕ → List ℕ → Sink → Sink
 assigned p b k = record { pool = k.pool; stack = on_top (written p b) k.stack; free = k.free; spare = k.spare }
 
 pub record Assigns (p : ℕ) (b w w' : List ℕ) (s : Serializer) (c : Counts) : Type 0 where
-  pub opened : 0 < c.depth
   pub within : p + length b ≤ c.head - (start_at s (c.depth - 1)).head
   pub work : w' ≡ paste w ((start_at s (c.depth - 1)).head + p) b (length b)
   pub sound : Sound w' s c
@@ -188,7 +195,7 @@ pub record Copies (b w w' : List ℕ) (s s' : Serializer) (c c' : Counts) (k : �
   pub sound : Sound w' s' c'
   pub stands : Stands (record { bytes = b; links = [] }) (sink_of w' s' c').pool k
   pub stack : (sink_of w' s' c').stack ≡ (sink_of w s c).stack
-  pub pool : (Stands (record { bytes = b; links = [] }) (sink_of w s c).pool k × ((sink_of w' s' c').pool ≡ (sink_of w s c).pool)) ⊎ (Absent (record { bytes = b; links = [] }) (sink_of w s c).pool × (k ≡ length (sink_of w s c).pool) × ((sink_of w' s' c').pool ≡ record { bytes = b; links = [] } ∷ (sink_of w s c).pool))
+  pub pool : ((sink_of w' s' c').pool ≡ (sink_of w s c).pool) ⊎ ((sink_of w' s' c').pool ≡ record { bytes = b; links = [] } ∷ (sink_of w s c).pool)
   pub before : Before c c'
   pub same : SameOpen c c'
   pub kept : Kept c w s w' s'
@@ -198,4 +205,12 @@ abbrev pub Uncopied : List ℕ → List ℕ → Serializer → Counts → Fault 
 Uncopied b w s c f = ((f ≡ Work) × (c.tail - c.head < length b)) ⊎ ((f ≡ Limit) × ((c.depth ≡ 8) ⊎ ((length (sink_of w s c).pool ≡ 2048) × Absent (record { bytes = b; links = [] }) (sink_of w s c).pool)))
 
 abbrev pub Copied : List ℕ → List ℕ → List ℕ → Serializer → Serializer → Counts → Counts → Result ℕ Fault → Type 0
-Copied b w w' s s' c c' r = MatchResult r (Copies b w w' s s' c c') (λ f. Uncopied b w s c f × TakenBack w w' s s' c c')
+Copied b w w' s s' c c' r = MatchResult r (Copies b w w' s s' c c') (λ _. TakenBack w w' s s' c c')
+
+-- x stands in the packed objects p under the number k and nothing is added, or it does not stand there and is added.
+abbrev pub Shared : Object → List Object → List Object → ℕ → Type 0
+Shared x p p' k = (Stands x p k × (p' ≡ p)) ⊎ (Absent x p × (k ≡ length p) × (p' ≡ x ∷ p))
+
+-- What each answer to a copy says of the packed objects and the counts.
+abbrev pub CopyAnswered : List ℕ → List ℕ → List ℕ → Serializer → Serializer → Counts → Counts → Result ℕ Fault → Type 0
+CopyAnswered b w w' s s' c c' r = MatchResult r (Shared (record { bytes = b; links = [] }) (sink_of w s c).pool (sink_of w' s' c').pool) (Uncopied b w s c)

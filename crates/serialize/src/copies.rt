@@ -1,6 +1,6 @@
 // Whole objects copied from bytes.
 ghost use Rattle.serialize.specs.Tables.{Sound};
-ghost use Rattle.serialize.specs.Calls.{Copied};
+ghost use Rattle.serialize.specs.Calls.{Copied, CopyAnswered};
 
 use crate::faults::Fault;
 use crate::tables::{Counts, Serializer};
@@ -13,7 +13,7 @@ impl Serializer {
         counts: &mut Counts,
         bytes: &[u8],
     ) -> Result<u16, Fault>
-        ensures copied { Sound work.old self.old counts.old → Copied bytes.now work.old work.new self.old self.new counts.old counts.new result }
+        ensures copied { Sound work.old self.old counts.old → Copied bytes.now work.old work.new self.old self.new counts.old counts.new result × CopyAnswered bytes.now work.old work.new self.old self.new counts.old counts.new result }
     {
         let token = self.push(counts)?;
         match self.embed_bytes(work, counts, bytes) {

@@ -1,7 +1,7 @@
 // Offsets: a field and its link together.
 ghost use Rattle.std.specs.Prelude.{◌≡◌, ℕ, List, MatchOption};
 ghost use Rattle.serialize.specs.Tables.{Sound};
-ghost use Rattle.serialize.specs.Calls.{TopSize, OffsetAdded};
+ghost use Rattle.serialize.specs.Calls.{TopSize, OffsetAdded, OffsetAnswered};
 
 use crate::faults::Fault;
 use crate::marks::Mark;
@@ -30,7 +30,7 @@ impl Serializer {
         width: Width,
         target: u16,
     ) -> Result<(), Fault>
-        ensures added { Sound work.old self.old counts.old → OffsetAdded width target work.old work.new self.old self.new counts.old counts.new result }
+        ensures added { Sound work.old self.old counts.old → OffsetAdded width target work.old work.new self.old self.new counts.old counts.new result × OffsetAnswered width target counts.old result }
     {
         let saved = *counts;
         let Some(position) = self.top_size(saved) else {

@@ -23,7 +23,7 @@ grown-same w w' s c c' sound e f =
 
 pub copied-kept : (b w w' : List ℕ) (s s' : Serializer) (c c' : Counts) (r : Result ℕ Fault) → Copied b w w' s s' c c' r → Sound w' s' c' × (c'.depth ≡ c.depth) × Kept c w s w' s'
 copied-kept b w w' s s' c c' (Ok k) h = (h.sound, h.same.2, h.kept)
-copied-kept b w w' s s' c c' (Err f) (why, h) = (h.sound, ap (λ (x : Counts). x.depth) h.counts, h.kept)
+copied-kept b w w' s s' c c' (Err f) h = (h.sound, ap (λ (x : Counts). x.depth) h.counts, h.kept)
 
 pub grown-trans : (w w₁ w₂ : List ℕ) (s s₁ s₂ : Serializer) (c c₁ c₂ : Counts) → Grown w w₁ s s₁ c c₁ → Grown w₁ w₂ s₁ s₂ c₁ c₂ → Grown w w₂ s s₂ c c₂
 grown-trans w w₁ w₂ s s₁ s₂ c c₁ c₂ a b =

@@ -13,7 +13,7 @@ returns-in_err-add_offset c = λ sound.
     let a = c.in_ok-add_record.ensures sound in
     let b = c.try_record-refused.ensures a.sound in
     let e = c.in_ok-embed.ensures.embedded b.sound in
-    let o = (c.in_err-add_offset.ensures.added e.sound).1 in
+    let o = (c.in_err-add_offset.ensures.added e.sound).0 in
     grown-trans _ _ _ _ _ _ _ _ _ (grown-trans _ _ _ _ _ _ _ _ _ (grown-trans _ _ _ _ _ _ _ _ _ a b) (grown-embeds _ _ _ _ _ _ e)) (grown-back _ _ _ _ _ _ o)
 
 pub returns : goal.returns
@@ -21,5 +21,5 @@ returns c = λ sound.
     let a = c.in_ok-add_record.ensures sound in
     let b = c.try_record-refused.ensures a.sound in
     let e = c.in_ok-embed.ensures.embedded b.sound in
-    let o = c.in_ok-add_offset.ensures.added e.sound in
+    let o = (c.in_ok-add_offset.ensures.added e.sound).0 in
     grown-trans _ _ _ _ _ _ _ _ _ (grown-trans _ _ _ _ _ _ _ _ _ (grown-trans _ _ _ _ _ _ _ _ _ a b) (grown-embeds _ _ _ _ _ _ e)) (grown-offsets _ _ _ _ _ _ _ _ o)
