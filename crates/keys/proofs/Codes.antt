@@ -27,8 +27,8 @@ four : (bs : List ℕ) → length bs ≡ 4 → bs ≡ get_or bs 0 0 ∷ get_or b
 four bs n = same_lists _ _ n (λ k d h. grind (arith, places))
 
 -- the bytes of the number n of four bytes
-pub spelt-coded : (n : ℕ) (bs : List ℕ) → n ≡ coded bs → length bs ≡ 4 → get_or bs 0 0 < 256 → get_or bs 1 0 < 256 → get_or bs 2 0 < 256 → get_or bs 3 0 < 256 → spelt n ≡ bs
-spelt-coded n bs is long h0 h1 h2 h3 =
+pub spelt_code : (n : ℕ) (bs : List ℕ) → n ≡ coded bs → length bs ≡ 4 → get_or bs 0 0 < 256 → get_or bs 1 0 < 256 → get_or bs 2 0 < 256 → get_or bs 3 0 < 256 → spelt n ≡ bs
+spelt_code n bs is long h0 h1 h2 h3 =
     let e0 : n / 16777216 % 256 ≡ get_or bs 0 0 = omega arith in
     let e1 : n / 65536 % 256 ≡ get_or bs 1 0 = omega arith in
     let e2 : n / 256 % 256 ≡ get_or bs 2 0 = omega arith in

@@ -9,8 +9,8 @@ opened xs n i x = insert (take n xs) i x ++ drop (n + 1) xs
 
 module _ {X : Type 0} (xs : List X) (n : ℕ) (room : n < length xs) where
   -- before the first move
-  pub opened-none : (d : X) → xs ≡ opened xs n n (get_or xs n d)
-  opened-none d = same_lists _ _ (search (rules, places)) (λ k e h. grind (arith, places))
+  pub opened_none : (d : X) → xs ≡ opened xs n n (get_or xs n d)
+  opened_none d = same_lists _ _ (search (rules, places)) (λ k e h. grind (arith, places))
 
   -- x is written over
   pub set-opened : (i : ℕ) (x y : X) → i ≤ n → set (opened xs n i x) i y ≡ opened xs n i y
@@ -37,8 +37,8 @@ module _ {X : Type 0} (xs : List X) (n : ℕ) (room : n < length xs) where
       subst (λ z. insert fs (j + 1) z ++ drop (n + 1) xs ≡ insert fs j z ++ drop (n + 1) xs) same_key (ap (λ l. l ++ drop (n + 1) xs) e)
 
   -- one key more is moved
-  pub opened-more : (slots : List X) (i j : ℕ) (z v d : X) → i ≡ j + 1 → i ≤ n → slots ≡ opened xs n i z → v ≡ get_or slots j v → set slots i v ≡ opened xs n j (get_or xs j d)
-  opened-more slots i j z v d step le is read =
+  pub opened_more : (slots : List X) (i j : ℕ) (z v d : X) → i ≡ j + 1 → i ≤ n → slots ≡ opened xs n i z → v ≡ get_or slots j v → set slots i v ≡ opened xs n j (get_or xs j d)
+  opened_more slots i j z v d step le is read =
       let lt : j < i = omega arith in
       let value : v ≡ get_or xs j d =
       read ∙ ap (λ l. get_or l j v) is ∙ getD-opened i j z v lt le ∙ get_or_default xs j v d (omega arith) in
@@ -49,6 +49,6 @@ module _ {X : Type 0} (xs : List X) (n : ℕ) (room : n < length xs) where
       ∙ opened-down j d (omega arith)
 
   -- all moves are made, and the last key is written
-  pub opened-all : (slots : List X) (i at : ℕ) (z y : X) → i ≡ at → at ≤ n → slots ≡ opened xs n i z → set slots at y ≡ opened xs n at y
-  opened-all slots i at z y e le is =
+  pub opened_all : (slots : List X) (i at : ℕ) (z y : X) → i ≡ at → at ≤ n → slots ≡ opened xs n i z → set slots at y ≡ opened xs n at y
+  opened_all slots i at z y e le is =
       ap (λ l. set l at y) (is ∙ ap (λ m. opened xs n m z) e) ∙ set-opened at z y le

@@ -15,6 +15,7 @@ pub struct Tag {
 
 impl Tag {
     // The tag of four bytes, first byte first.
+    #[tactic(auto, using(crate::proofs::Codes::spelt_code))]
     pub fn new(bytes: [u8; 4]) -> Tag
         ensures code { result.code ≡ coded bytes }
         ensures bytes { spelt result.code ≡ bytes }
@@ -51,6 +52,7 @@ impl Key for Tag {
 
     ghost same_trans = { Prim.search rules };
 
+    #[tactic(auto, using(crate::proofs::Codes::by_bytes))]
     fn order(self, other: Tag) -> Ordering
         ensures ranked { MatchOrdering result (TagBefore self other) (TagSame self other) (TagBefore other self) }
         ensures bytes { ByBytes self other result }
