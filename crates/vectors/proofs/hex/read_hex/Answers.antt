@@ -9,4 +9,4 @@ spelt-more ds old new k b n e inv below at here =
 
 pub loop-k-preserved : goal.loop-k-preserved
 loop-k-preserved c =
-    (search rules, spelt-more c.args.digits.now _ _ c.loop-k.k c.in-Some.byte _ c.loop-k.invariant.0 c.loop-k.invariant.1 c.push.ensures.by_index.0 (sym c.in-Some.ensures) (c.push.ensures.by_index.1 0 (search rules)))
+    (search rules, spelt-more c.args.digits.now _ _ c.loop-k.k c.in-Some.byte _ c.loop-k.invariant.0 c.loop-k.invariant.1 c.push.ensures.by_index.0 (search rules) (c.push.ensures.by_index.1 0 (search rules)))
