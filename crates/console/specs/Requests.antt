@@ -2,7 +2,7 @@
 --   Lists           the words that say which lookups, features and scripts are kept
 --   Errand          a request, or what is wrong with the words
 --   asked r         what the program's own answer says
---   then-...        what the words after these ask for
+--   then_..         what the words after these ask for
 --   errand_by ws    what the words ask for: numbering, where the first is 'number', and else a command
 use Rattle.std.specs.Prelude.{ℕ, cond, List, Some, None, Ok, Err, codes, Option, Result}
 use Rattle.std.specs.Str.{bytes_eq}

@@ -157,13 +157,14 @@ pub record TakenBack (w w' : List ℕ) (s s' : Serializer) (c c' : Counts) : Typ
   pub sink : sink_of w' s' c' ≡ sink_of w s c
   pub kept : Kept c w s w' s'
 
--- why an offset is refused: no room for its field; else no object is open, no room for the link, or no such target
+-- An object is open, there is room for the field and for its link, and the target is packed.
 pub record Fits (v : Width) (t : ℕ) (c : Counts) : Type 0 where
   pub opened : 0 < c.depth
   pub room : width_of v ≤ c.tail - c.head
   pub spare : c.lhead < c.ltail
   pub target : t < c.objects
 
+-- why an offset is refused: no room for its field; else no object is open, no room for the link, or no such target
 abbrev pub Unfit : Width → ℕ → Counts → Fault → Type 0
 Unfit v t c f = ((f ≡ Work) × (0 < c.depth) × (c.tail - c.head < width_of v)) ⊎ ((f ≡ Limit) × ((c.depth ≡ 0) ⊎ ((c.lhead ≡ c.ltail) ⊎ (c.objects ≤ t))))
 

@@ -1,3 +1,4 @@
+use Rattle.std.proofs.Common.{rules}
 use Rattle.keys.proofs.Orders.{ordered}
 use Rattle.kept.proofs.Puts.{put-known, put-ascending, put-joined}
 use Rattle.kept.proofs.sets.put.Goals as goal
@@ -9,6 +10,6 @@ returns-in-Ok g c =
 pub returns-in_ok-insert-in-Err : goal.returns-in_ok-insert-in-Err
 returns-in_ok-insert-in-Err g c =
     record {
-      ascending = put-ascending (ordered g.met.K.Key) _ _ c.args.key _ c.as_slice.ensures.value _ c.insert.result _ c.in_ok-insert-in-Err.was c.insert.ensures.items c.in-Err.ensures.found c.in-Err.ensures.placed;
-      joined = put-joined (ordered g.met.K.Key) _ _ c.args.key _ c.as_slice.ensures.value _ c.insert.result _ c.in_ok-insert-in-Err.was c.insert.ensures.items c.in-Err.ensures.found;
+      ascending = put-ascending (ordered g.met.K.Key) _ _ c.args.key _ c.as_slice.ensures.value _ c.insert.result _ c.in_ok-insert-in-Err.was (search rules) c.in-Err.ensures.found c.in-Err.ensures.placed;
+      joined = put-joined (ordered g.met.K.Key) _ _ c.args.key _ c.as_slice.ensures.value _ c.insert.result _ c.in_ok-insert-in-Err.was (search rules) c.in-Err.ensures.found;
     }
