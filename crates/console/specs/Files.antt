@@ -4,8 +4,8 @@
 --   meaning r      what the program's own answer says
 --   part_by b a    the outcome for the file b, by what its directory has
 use Rattle.std.specs.Prelude.{ℕ, List, Ok, Err, Result}
-use Rattle.source.specs.declared.parts.Kind.{Kind}
-use Rattle.source.specs.declared.parts.Kind.TheVariants.{Gsub, Gpos}
+use Rattle.source.specs.declared.kinds.Kind.{Kind}
+use Rattle.source.specs.declared.kinds.Kind.TheVariants.{Gsub, Gpos}
 use Rattle.font.specs.Tables.{Answer}
 use Rattle.font.specs.Tables.Answer.{table, bare, collection, compressed, short_directory, no_record, past_end}
 use Rattle.console.specs.declared.files.Part.{Part}

@@ -7,7 +7,7 @@
 use Rattle.std.specs.Prelude.{ℕ, cond, List, Some, None, Ok, Err, codes, Option, Result}
 use Rattle.std.specs.Str.{bytes_eq}
 use Rattle.std.specs.List.{slice_get}
-use Rattle.source.specs.declared.parts.Kind.{Kind}
+use Rattle.source.specs.declared.kinds.Kind.{Kind}
 use Rattle.console.specs.declared.requests.Request.{Request}
 use Rattle.console.specs.declared.requests.Request.TheVariants.{Plain, NumberBuiltin, Number}
 use Rattle.console.specs.declared.requests.RequestMisuse.{RequestMisuse}

@@ -7,8 +7,8 @@
 use Rattle.std.specs.Prelude.{ℕ, cond, List, Some, None, Ok, Err, codes, Option, Result}
 use Rattle.std.specs.List.{slice_get}
 use Rattle.std.specs.Str.{bytes_eq}
-use Rattle.source.specs.declared.parts.Kind.{Kind}
-use Rattle.source.specs.declared.parts.Kind.TheVariants.{Gsub, Gpos}
+use Rattle.source.specs.declared.kinds.Kind.{Kind}
+use Rattle.source.specs.declared.kinds.Kind.TheVariants.{Gsub, Gpos}
 use Rattle.console.specs.declared.arguments.Command.{Command}
 use Rattle.console.specs.declared.arguments.Command.TheVariants.{Builtin, Help, Show}
 use Rattle.console.specs.declared.arguments.Misuse.{Misuse}

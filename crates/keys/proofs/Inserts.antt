@@ -5,7 +5,7 @@ use Rattle.std.proofs.lemmas.List.{length-take, take_all, take_at}
 use Rattle.std.proofs.lemmas.List.Edits.{length-insert, get_or-insert_below, get_or-insert_at, get_or-insert_above}
 use Rattle.std.proofs.lemmas.Bool.{cases_lt, cases_order}
 use Rattle.keys.specs.Slots.{Ascending, At, Held, Between, Known, Taken, Refused, Joined}
-use Rattle.keys.proofs.Orders.{Ordered}
+use Rattle.keys.specs.Orders.{Ordered}
 
 module _ {X : Type 0} (fs : List X) (at : ℕ) (x : X) (le : at ≤ length fs) where
   -- the key put in, the keys below it and those above it

@@ -1,3 +1,4 @@
+pub mod Orders
 pub mod Pairs
 pub mod Slots
 pub mod Tags

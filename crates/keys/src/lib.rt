@@ -8,7 +8,7 @@ pub mod tags;
 
 pub use order::Key;
 pub use pairs::Pair;
-pub use slots::{Full, contains, find, insert};
+pub use slots::{Full, contains, find, insert, is_ascending};
 pub use tags::Tag;
 
 #[cfg(test)]

@@ -1,10 +1,9 @@
 // A search and an insertion over keys in order at the front of a slice.
-ghost use Rattle.std.specs.Prelude.{◌≡◌, ◌+◌, ◌<◌, ◌≤◌, true, ◌++◌, length, take, drop, IfOk, MatchResult};
+ghost use Rattle.std.specs.Prelude.{◌≡◌, ◌+◌, ◌<◌, ◌≤◌, true, ◌++◌, length, take, drop, Decides, IfOk, MatchResult};
 ghost use Rattle.std.specs.List.{insert};
 ghost use Rattle.keys.specs.Slots.{Ascending, Held, Found, Placed, filled, Inserted, Joined};
 
 use crate::order::Key;
-use std::cmp::Ordering;
 
 // No slot is free.
 #[derive(Clone, Copy, PartialEq, Eq, Debug)]
@@ -15,17 +14,7 @@ pub fn find<K: Key>(keys: &[K], key: K) -> Result<usize, usize>
     ensures found { Found K.same keys.now key result }
     ensures placed { Ascending K.before keys.now → Placed K.before K.same keys.now key result }
 {
-    let mut low = 0;
-    let mut high = keys.len();
-    while low < high {
-        let mid = low + (high - low) / 2;
-        match keys[mid].order(key) {
-            Ordering::Less => low = mid + 1,
-            Ordering::Equal => return Ok(mid),
-            Ordering::Greater => high = mid,
-        }
-    }
-    Err(low)
+    keys.binary_search(&key)
 }
 
 // Whether `key` is among keys that ascend.
@@ -33,24 +22,28 @@ pub fn contains<K: Key>(keys: &[K], key: K) -> bool
     ensures held { result ≡ true → Held K.same keys.now key }
     ensures found { Ascending K.before keys.now → Held K.same keys.now key → result ≡ true }
 {
-    match find(keys, key) {
-        Ok(_) => true,
-        Err(_) => false,
+    find(keys, key).is_ok()
+}
+
+// Whether each key is before the next one.
+pub fn is_ascending<K: Key>(keys: &[K]) -> bool
+    ensures { Decides result (Ascending K.before keys.now) }
+{
+    for i in 1..keys.len() {
+        if !keys[i - 1].order(keys[i]).is_lt() {
+            return false;
+        }
     }
+    true
 }
 
 // Writes `key` at `at`, and moves what stands from there up to `end` one place on, over what stands at `end`.
-#[tactic(auto, using(crate::proofs::Shifts::opened_none, crate::proofs::Shifts::opened_more, crate::proofs::Shifts::opened_all))]
 fn put<K: Key>(slots: &mut [K], at: usize, end: usize, key: K)
     requires order { at ≤ end }
     requires room { end < length slots.old }
     ensures slots { slots.new ≡ insert (take end slots.old) at key ++ drop (end + 1) slots.old }
 {
-    let mut i = end;
-    while at < i {
-        slots[i] = slots[i - 1];
-        i -= 1;
-    }
+    slots.copy_within(at..end, at + 1);
     slots[at] = key;
 }
 

@@ -8,7 +8,7 @@ use crate::order::Key;
 use std::cmp::Ordering;
 
 // Four bytes, kept as one number: the first byte is its highest.
-#[derive(Clone, Copy, PartialEq, Eq, Debug)]
+#[derive(Clone, Copy, PartialEq, Eq, PartialOrd, Ord, Hash, Debug)]
 pub struct Tag {
     pub code: u32,
 }
@@ -40,23 +40,15 @@ impl Key for Tag {
 
     ghost same = { TagSame };
 
-    ghost total = { Prim.search rules };
+    ghost laws = { Prim.search rules };
 
-    ghost before_not_same = { Prim.search rules };
-
-    ghost before_not_after = { Prim.search rules };
-
-    ghost same_not_after = { Prim.search rules };
-
-    ghost before_trans = { Prim.search rules };
-
-    ghost same_trans = { Prim.search rules };
+    ghost compared = { Prim.search rules };
 
     #[tactic(auto, using(crate::proofs::Codes::by_bytes))]
     fn order(self, other: Tag) -> Ordering
         ensures ranked { MatchOrdering result (TagBefore self other) (TagSame self other) (TagBefore other self) }
         ensures bytes { ByBytes self other result }
     {
-        self.code.cmp(&other.code)
+        self.cmp(&other)
     }
 }

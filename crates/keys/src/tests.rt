@@ -1,7 +1,7 @@
 // Examples at each of the three key types.
 use crate::order::Key;
 use crate::pairs::Pair;
-use crate::slots::{Full, contains, find, insert};
+use crate::slots::{Full, contains, find, insert, is_ascending};
 use crate::tags::Tag;
 use std::cmp::Ordering;
 
@@ -15,6 +15,14 @@ fn finds_indices(rt: HostRuntime) {
     assert_eq!(rt; find(&keys, 10), Err(3));
     assert_eq!(rt; find(&[0u16; 0], 7), Err(0));
     assert!(rt; contains(&keys, 5) && !contains(&keys, 4));
+}
+
+#[test]
+fn tells_ascending(rt: HostRuntime) {
+    assert!(rt; is_ascending(&[0u16; 0]) && is_ascending(&[7u16]) && is_ascending(&[2u16, 5, 9]));
+    assert!(rt;
+        !is_ascending(&[2u16, 2]) && !is_ascending(&[2u16, 9, 5]) && !is_ascending(&[5u16, 2, 9])
+    );
 }
 
 #[test]

@@ -2,7 +2,7 @@
 --   tagged             the number of a tag, from its four bytes
 --   system, feature    a language system that requires no feature, and a feature, with these numbers
 use Rattle.std.specs.Prelude.{ℕ, ◌+◌, ◌*◌, List, [], ◌∷◌, codes, fold}
-use Rattle.source.specs.declared.parts.Kind.TheVariants.{Gsub}
+use Rattle.source.specs.declared.kinds.Kind.TheVariants.{Gsub}
 use Rattle.source.specs.declared.parts.Standing.{Standing}
 use Rattle.source.specs.declared.parts.Standing.TheVariants.{Absent, There}
 use Rattle.source.specs.Reading.{LangSysTable, ScriptRecord, FeatureRecord, Reading}

@@ -7,7 +7,7 @@
 --   read_..      how a row's table stands, and read_.._record with the row's tag
 --   read_rows    the whole table
 use Rattle.std.specs.Prelude.{ℕ, ◌+◌, cond, List, map, length, take, drop, Some, None, Option, ◌==◌, nat_le, slice_index_or}
-use Rattle.source.specs.declared.parts.Kind.{Kind}
+use Rattle.source.specs.declared.kinds.Kind.{Kind}
 use Rattle.source.specs.declared.parts.Standing.{Standing}
 use Rattle.source.specs.declared.parts.Standing.TheVariants.{Absent, Unreadable, There}
 use Rattle.source.specs.Standings.{mapped}

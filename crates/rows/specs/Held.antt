@@ -4,7 +4,7 @@
 --   Opened        what `open` answers: a source that holds and says all of the rows, or the refusal
 --                 where a list is over its capacity
 use Rattle.std.specs.Prelude.{◌≡◌, ℕ, List, take, Ok, Err, Result}
-use Rattle.source.specs.declared.parts.Kind.{Kind}
+use Rattle.source.specs.declared.kinds.Kind.{Kind}
 use Rattle.source.specs.Reading.{Reading}
 use Rattle.source.specs.declared.refusals.Refusal.{Refusal}
 use Rattle.source.specs.declared.refusals.Refusal.TheVariants.{SourceTooLarge}

@@ -6,7 +6,7 @@
 --   trimmed_reading    two features that differ in their second lookups
 --   Says               rows were opened, and they say this
 use Rattle.std.specs.Prelude.{◌≡◌, ℕ, List, [], ◌∷◌, codes, Result, MatchResult}
-use Rattle.source.specs.declared.parts.Kind.TheVariants.{Gsub}
+use Rattle.source.specs.declared.kinds.Kind.TheVariants.{Gsub}
 use Rattle.source.specs.declared.parts.Standing.TheVariants.{Absent, There}
 use Rattle.source.specs.declared.refusals.Refusal.{Refusal}
 use Rattle.source.specs.Reading.{LangSysTable, LangSysRecord, FeatureRecord, Reading}

@@ -1,7 +1,7 @@
 -- What the second sample says.
 --   tagged     the number of a tag, from its four bytes
 use Rattle.std.specs.Prelude.{ℕ, ◌+◌, ◌*◌, List, [], ◌∷◌, codes, fold}
-use Rattle.source.specs.declared.parts.Kind.TheVariants.{Gpos}
+use Rattle.source.specs.declared.kinds.Kind.TheVariants.{Gpos}
 use Rattle.source.specs.declared.parts.Condition.TheVariants.{Format1, Other}
 use Rattle.source.specs.declared.parts.Standing.TheVariants.{Absent, Unreadable, There}
 use Rattle.source.specs.Reading.{ScriptRecord, FeatureRecord, VariationRecord, Reading}

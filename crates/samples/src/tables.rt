@@ -1,5 +1,5 @@
 ghost use Rattle.std.specs.Prelude.{◌≡◌, [], ◌∷◌};
-ghost use Rattle.source.specs.declared.parts.Kind.TheVariants.{Gsub, Gpos};
+ghost use Rattle.source.specs.declared.kinds.Kind.TheVariants.{Gsub, Gpos};
 ghost use Rattle.table.specs.Format.{read_table};
 ghost use Rattle.rows.specs.Builtin.{builtin_reading};
 ghost use Rattle.numbering.specs.Stages.{survivors, earliest_of};

@@ -1,3 +1,4 @@
+pub mod Kinds
 pub mod Standings
 pub mod Reading
 pub mod Questions

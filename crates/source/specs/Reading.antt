@@ -3,7 +3,7 @@
 use Rattle.std.specs.Prelude.{ℕ, List}
 use Rattle.source.specs.declared.parts.Standing.{Standing}
 use Rattle.source.specs.declared.parts.Condition.{Condition}
-use Rattle.source.specs.declared.parts.Kind.{Kind}
+use Rattle.source.specs.declared.kinds.Kind.{Kind}
 
 pub record LangSysTable : Type 0 where
   pub required : ℕ

@@ -4,8 +4,9 @@ ghost use Rattle.source.specs.Reading.{Reading};
 ghost use Rattle.source.specs.Standings.{mapped};
 ghost use Rattle.source.specs.Questions.{script_record, script, lang_sys_records, lang_sys_record, lang_sys_of, lang_sys_head, indices_of, feature_record, feature, lookups_of, params_of, params_meaning, variations_head, variation_record, condition, substitution_head, substitution_records, index_of};
 
+use crate::kinds::Kind;
 use crate::parts::{
-    Condition, FeatureParams, FeaturePlace, Kind, LangSys, LangSysPlace, Standing, Substitution,
+    Condition, FeatureParams, FeaturePlace, LangSys, LangSysPlace, Standing, Substitution,
     Variations,
 };
 use keys::Tag;

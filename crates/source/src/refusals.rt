@@ -4,9 +4,9 @@ ghost use Rattle.source.specs.Refusals.{number};
 // Why a call says no.
 #[derive(Clone, Copy, PartialEq, Eq, Debug)]
 pub enum Refusal {
-    SourceTooLarge,
-    BadHeader,
-    TooManyPairs,
+    SourceTooLarge = 1,
+    BadHeader = 2,
+    TooManyPairs = 4,
 }
 
 impl Refusal {
@@ -14,10 +14,6 @@ impl Refusal {
     pub fn number(self) -> u8
         ensures { result ≡ number self }
     {
-        match self {
-            Refusal::SourceTooLarge => 1,
-            Refusal::BadHeader => 2,
-            Refusal::TooManyPairs => 4,
-        }
+        self as u8
     }
 }

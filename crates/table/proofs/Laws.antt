@@ -5,8 +5,8 @@ use Rattle.std.specs.List.{slice_get, range_with_len}
 use Rattle.std.proofs.lemmas.List.FromFn.{length-map-range_with_len}
 use Rattle.source.specs.declared.parts.Standing.{Standing}
 use Rattle.source.specs.declared.parts.Standing.TheVariants.{Absent, Unreadable, There}
-use Rattle.source.specs.declared.parts.Kind.{Kind}
-use Rattle.source.specs.declared.parts.Kind.TheVariants.{Gsub}
+use Rattle.source.specs.declared.kinds.Kind.{Kind}
+use Rattle.source.specs.declared.kinds.Kind.TheVariants.{Gsub}
 use Rattle.source.specs.declared.parts.LangSysPlace.{LangSysPlace}
 use Rattle.source.specs.declared.parts.LangSysPlace.TheVariants.{Default, Record}
 use Rattle.source.specs.declared.parts.FeaturePlace.{FeaturePlace}

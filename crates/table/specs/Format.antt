@@ -14,7 +14,7 @@ use Rattle.source.specs.declared.parts.Standing.{Standing}
 use Rattle.source.specs.declared.parts.Standing.TheVariants.{Absent, Unreadable, There}
 use Rattle.source.specs.declared.parts.Condition.{Condition}
 use Rattle.source.specs.declared.parts.Condition.TheVariants.{Format1, Other}
-use Rattle.source.specs.declared.parts.Kind.{Kind}
+use Rattle.source.specs.declared.kinds.Kind.{Kind}
 use Rattle.table.specs.declared.layouts.Layout.{Layout}
 use Rattle.source.specs.Standings.{mapped}
 use Rattle.source.specs.Reading.{LangSysTable, LangSysRecord, ScriptTable, ScriptRecord, Params, FeatureTable, FeatureRecord, SubstitutionRecord, SubstitutionTable, VariationRecord, VariationsTable, Reading}
