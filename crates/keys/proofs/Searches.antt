@@ -1,5 +1,5 @@
 -- What a search in keys that ascend answers. Assumes nothing but the laws of a key type.
-use Rattle.std.proofs.Common.{◌≡◌, ℕ, ◌<◌, ◌≤◌, List, length, Result, Ok, Err, Ordering, Less, Equal, Greater, true, true≢false, is_ok, refl, sym, subst, ⊎_elim, arith}
+use Rattle.std.proofs.Common.{◌≡◌, ℕ, ◌<◌, ◌≤◌, List, length, get_or, Result, Ok, Err, Ordering, Less, Equal, Greater, true, true≢false, is_ok, refl, sym, subst, ⊎_elim, arith}
 use Rattle.std.specs.Ordering.{MatchOrdering, ordering_index}
 use Rattle.std.specs.List.Sorted.{IsBinarySearchResult, IsSearchInRange, IsNonDecreasingBy, IsPartitionPoint}
 use Rattle.std.proofs.lemmas.Bool.{cases_lt, cases_order}
@@ -57,14 +57,18 @@ module _ {X : Type 0} {before same : X → X → Type 0} (o : Ordered before sam
       (λ k d lt. ranked _ Less (low k d (omega arith) lt), λ k d le within. ranked _ Greater (high k d le within))
 
   -- what a binary search answers
-  pub searched : (r : Result ℕ ℕ) → IsSearchInRange r (length xs) → IsBinarySearchResult (λ y. cmp y x) xs r → Found same xs x r × (Ascending before xs → Placed before same xs x r)
-  searched (Ok i) within is =
-      let at : At (λ y. same y x) xs i = (within, λ d. ranked _ Equal (is d)) in
-      (at, λ up. only o xs x up i at)
-  searched (Err i) within is =
-      (within, λ up. let b = between i (is (rising up)) in (missing o xs x up i b, b))
+  found_at : (i : ℕ) → i < length xs → ((d : X) → cmp (get_or xs i d) x ≡ Equal) → At (λ y. same y x) xs i
+  found_at i within is = (within, λ d. ranked _ Equal (is d))
+
+  pub found : (r : Result ℕ ℕ) → IsSearchInRange r (length xs) → IsBinarySearchResult (λ y. cmp y x) xs r → Found same xs x r
+  found (Ok i) within is = found_at i within is
+  found (Err i) within is = within
+
+  pub placed : (r : Result ℕ ℕ) → IsSearchInRange r (length xs) → IsBinarySearchResult (λ y. cmp y x) xs r → Ascending before xs → Placed before same xs x r
+  placed (Ok i) within is up = only o xs x up i (found_at i within is)
+  placed (Err i) within is up = let b = between i (is (rising up)) in (missing o xs x up i b, b)
 
 -- whether a search found the key
 pub held : {X : Type 0} (before same : X → X → Type 0) (xs : List X) (x : X) (r : Result ℕ ℕ) → Found same xs x r → (Ascending before xs → Placed before same xs x r) → (is_ok r ≡ true → Held same xs x) × (Ascending before xs → Held same xs x → is_ok r ≡ true)
-held before same xs x (Ok i) found placed = (λ _. (i, found), λ _ _. refl)
-held before same xs x (Err i) found placed = (λ e. absurd (true≢false (sym e)), λ up h. absurd ((placed up).0 h))
+held before same xs x (Ok i) at _ = (λ _. (i, at), λ _ _. refl)
+held before same xs x (Err i) _ none = (λ e. absurd (true≢false (sym e)), λ up h. absurd ((none up).0 h))

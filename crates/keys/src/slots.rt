@@ -10,6 +10,7 @@ use crate::order::Key;
 pub struct Full;
 
 // The place of `key` in keys that ascend, or the place where it would go.
+#[tactic(auto, using(crate::proofs::Searches::found))]
 pub fn find<K: Key>(keys: &[K], key: K) -> Result<usize, usize>
     ensures found { Found K.same keys.now key result }
     ensures placed { Ascending K.before keys.now → Placed K.before K.same keys.now key result }
@@ -18,6 +19,7 @@ pub fn find<K: Key>(keys: &[K], key: K) -> Result<usize, usize>
 }
 
 // Whether `key` is among keys that ascend.
+#[tactic(auto, using(crate::proofs::Searches::held))]
 pub fn contains<K: Key>(keys: &[K], key: K) -> bool
     ensures held { result ≡ true → Held K.same keys.now key }
     ensures found { Ascending K.before keys.now → Held K.same keys.now key → result ≡ true }

@@ -1,8 +1,7 @@
-use Rattle.keys.proofs.Searches.{searched}
+use Rattle.keys.proofs.Searches.{placed}
 use Rattle.keys.proofs.slots.find.Goals as goal
 
-pub returns : goal.returns
-returns g c =
-    let by = c.binary_search.ensures in
-    let r = searched g.met.K.Key.laws g.K.Ord.cmp g.met.K.Key.compared c.args.keys.now c.args.key _ by.bound by.position in
-    record { found = r.0; placed = r.1 }
+pub returns-clause-placed : goal.returns-clause-placed
+returns-clause-placed g c =
+    let by_laws = placed g.met.K.Key.laws g.K.Ord.cmp g.met.K.Key.compared c.args.keys.now c.args.key in
+    search by_laws
