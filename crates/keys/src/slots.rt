@@ -40,6 +40,7 @@ pub fn is_ascending<K: Key>(keys: &[K]) -> bool
 }
 
 // Writes `key` at `at`, and moves what stands from there up to `end` one place on, over what stands at `end`.
+#[tactic(auto, using(crate::proofs::Shifts::put_shifted))]
 fn put<K: Key>(slots: &mut [K], at: usize, end: usize, key: K)
     requires order { at ≤ end }
     requires room { end < length slots.old }
