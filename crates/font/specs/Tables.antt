@@ -1,15 +1,20 @@
 -- What a file has under a tag.
 --   Answer            the table's bytes, or why there are none
---   meaning r         what the library's answer says
+--   Outcome           a part of a font file, the whole of a file, or why there is neither
+--   meaning r         what the library's own answer says
+--   part_by b a       the outcome for the file b, by what its directory has
+--   answer_by o       what the directory has, by the outcome
 --   by_record b i     what the record at i leads to: its offset stands at 8 and its length at 12
 --   by_directory b t  what the first record with the tag t leads to
 --   unless_bare b a   a, but bare where a layout table's own bytes explain why the directory leads to none
 --   table_of b t      the whole answer
-use Rattle.std.specs.Prelude.{ℕ, ◌+◌, cond, List, length, take, drop, Some, None, Option, nat_le}
+use Rattle.std.specs.Prelude.{ℕ, ◌+◌, cond, List, length, take, drop, Some, None, Ok, Err, Option, Result, nat_le}
 use Rattle.font.specs.declared.directory.Opening.{Opening}
 use Rattle.font.specs.declared.directory.Opening.TheVariants as OpeningCase
-use Rattle.font.specs.declared.tables.Found.{Found}
-use Rattle.font.specs.declared.tables.Found.TheVariants.{Table, Bare, Collection, Compressed, ShortDirectory, NoRecord, PastEnd}
+use Rattle.font.specs.declared.tables.Part.{Part}
+use Rattle.font.specs.declared.tables.Part.TheVariants.{InFont, Bare}
+use Rattle.font.specs.declared.tables.FontFault.{FontFault}
+use Rattle.font.specs.declared.tables.FontFault.TheVariants.{Collection, Compressed, ShortDirectory, NoTable, PastEnd}
 use Rattle.font.specs.Numbers.{long_at}
 use Rattle.font.specs.Directory.{opening_of, may_be_layout, records_of, first_from}
 
@@ -22,14 +27,33 @@ pub data Answer : Type 0 where
   no_record : Answer
   past_end : Answer
 
-abbrev pub meaning : Found → Answer
-meaning (Table s) = table s.now
-meaning Bare = bare
-meaning Collection = collection
-meaning Compressed = compressed
-meaning ShortDirectory = short_directory
-meaning NoRecord = no_record
-meaning PastEnd = past_end
+pub data Outcome : Type 0 where
+  in_font : List ℕ → Outcome
+  whole_file : List ℕ → Outcome
+  no_part : FontFault → Outcome
+
+abbrev pub meaning : Result Part FontFault → Outcome
+meaning (Ok (InFont s)) = in_font s.now
+meaning (Ok (Bare s)) = whole_file s.now
+meaning (Err f) = no_part f
+
+abbrev pub part_by : List ℕ → Answer → Outcome
+part_by b (table s) = in_font s
+part_by b bare = whole_file b
+part_by b collection = no_part Collection
+part_by b compressed = no_part Compressed
+part_by b short_directory = no_part ShortDirectory
+part_by b no_record = no_part NoTable
+part_by b past_end = no_part PastEnd
+
+abbrev pub answer_by : Outcome → Answer
+answer_by (in_font s) = table s
+answer_by (whole_file b) = bare
+answer_by (no_part Collection) = collection
+answer_by (no_part Compressed) = compressed
+answer_by (no_part ShortDirectory) = short_directory
+answer_by (no_part NoTable) = no_record
+answer_by (no_part PastEnd) = past_end
 
 abbrev pub by_record : List ℕ → ℕ → Answer
 by_record b i =

@@ -1,10 +1,10 @@
 ghost use Rattle.std.specs.Prelude.{◌≡◌, ◌+◌, ◌*◌, ◌≤◌, length, IfSome};
 ghost use Rattle.font.specs.Directory.{opening_of, offset_like, may_be_layout, records_of, first_from};
 
-use crate::reads::{read_u16, read_u32};
+use crate::reads::{u16_at, u32_at};
 
 // What the first four bytes of a file say.
-#[derive(Clone, Copy)]
+#[derive(Clone, Copy, PartialEq, Eq, Debug)]
 pub enum Opening {
     Font,
     FontOrLayout,
@@ -16,14 +16,11 @@ pub enum Opening {
 pub(crate) fn read_opening(file: &[u8]) -> Opening
     ensures { result ≡ opening_of file.now }
 {
-    if file.len() < 4 {
-        return Opening::Other;
-    }
-    match read_u32(file, 0) {
-        0x4F54544F | 0x74727565 => Opening::Font,
-        0x00010000 => Opening::FontOrLayout,
-        0x74746366 => Opening::Collection,
-        0x774F4646 | 0x774F4632 => Opening::Compressed,
+    match u32_at(file, 0) {
+        Some(0x4F54544F | 0x74727565) => Opening::Font,
+        Some(0x00010000) => Opening::FontOrLayout,
+        Some(0x74746366) => Opening::Collection,
+        Some(0x774F4646 | 0x774F4632) => Opening::Compressed,
         _ => Opening::Other,
     }
 }
@@ -40,24 +37,17 @@ pub(crate) fn layout_like(file: &[u8]) -> bool
     ensures { result ≡ may_be_layout file.now }
 {
     file.len() < 12
-        || past_header(read_u16(file, 4))
-            && past_header(read_u16(file, 6))
-            && past_header(read_u16(file, 8))
+        || u16_at(file, 4).is_some_and(past_header)
+            && u16_at(file, 6).is_some_and(past_header)
+            && u16_at(file, 8).is_some_and(past_header)
 }
 
 // The number of records, where the directory lies within the file.
 pub(crate) fn records(file: &[u8]) -> Option<usize>
     ensures { result ≡ records_of file.now }
 {
-    if file.len() < 12 {
-        return None;
-    }
-    let number = usize::from(read_u16(file, 4));
-    if 12 + 16 * number <= file.len() {
-        Some(number)
-    } else {
-        None
-    }
+    let number = usize::from(u16_at(file, 4)?);
+    (12 + 16 * number <= file.len()).then_some(number)
 }
 
 // The place of the first record with a tag, among the records of a directory.
@@ -68,7 +58,7 @@ pub(crate) fn find_record(file: &[u8], number: usize, tag: u32) -> Option<usize>
 {
     for i in 0..number {
         let at = 12 + 16 * i;
-        if read_u32(file, at) == tag {
+        if u32_at(file, at) == Some(tag) {
             return Some(at);
         }
     }

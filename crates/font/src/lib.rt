@@ -1,4 +1,4 @@
-// Finding a table in a font file (sfnt).
+// Finding a table in a font file (sfnt), and numbers in bytes.
 #![tactic(auto)]
 
 mod directory;
@@ -7,4 +7,5 @@ mod tables;
 #[cfg(test)]
 mod tests;
 
-pub use tables::{Found, find_table};
+pub use reads::{bytes_at, u16_at, u32_at};
+pub use tables::{FontFault, Part, find_table};

@@ -1,66 +1,66 @@
+// What a file has under a tag.
 ghost use Rattle.std.specs.Prelude.{◌≡◌, ◌+◌, ◌≤◌, length};
-ghost use Rattle.font.specs.Tables.{meaning, table_of, by_directory, by_record};
+ghost use Rattle.font.specs.Tables.{meaning, answer_by, part_by, table_of, by_directory, by_record};
 
 use crate::directory::{Opening, find_record, layout_like, read_opening, records};
-use crate::reads::read_u32;
+use crate::reads::u32_at;
 use keys::Tag;
 
-// What a file has under a tag.
-#[derive(Clone, Copy)]
-pub enum Found<'a> {
-    // The table's bytes.
-    Table(&'a [u8]),
-    // The file is no font: its bytes may be a table's own.
-    Bare,
+// The bytes of a table: a part of a font file, or the whole of a file that is no font.
+#[derive(Clone, Copy, PartialEq, Eq, Debug)]
+pub enum Part<'a> {
+    InFont(&'a [u8]),
+    Bare(&'a [u8]),
+}
+
+// Why a font file gives no table.
+#[derive(Clone, Copy, PartialEq, Eq, Debug)]
+pub enum FontFault {
     // Several fonts in one file.
     Collection,
     // A compressed font.
     Compressed,
     // The directory passes the file's end.
     ShortDirectory,
-    NoRecord,
+    NoTable,
     // The table passes the file's end.
     PastEnd,
 }
 
-// The table of a tag in a font file.
-pub fn find_table(file: &[u8], tag: Tag) -> Found<'_>
-    ensures { meaning result ≡ table_of file.now tag.code }
+// The table of a tag in a file.
+pub fn find_table(file: &[u8], tag: Tag) -> Result<Part<'_>, FontFault>
+    ensures found { answer_by (meaning result) ≡ table_of file.now tag.code }
+    ensures part { meaning result ≡ part_by file.now (table_of file.now tag.code) }
 {
     match read_opening(file) {
         Opening::Font => in_directory(file, tag.code),
         Opening::FontOrLayout => match in_directory(file, tag.code) {
-            Found::ShortDirectory | Found::NoRecord if layout_like(file) => Found::Bare,
+            Err(FontFault::ShortDirectory | FontFault::NoTable) if layout_like(file) => {
+                Ok(Part::Bare(file))
+            }
             found => found,
         },
-        Opening::Collection => Found::Collection,
-        Opening::Compressed => Found::Compressed,
-        Opening::Other => Found::Bare,
+        Opening::Collection => Err(FontFault::Collection),
+        Opening::Compressed => Err(FontFault::Compressed),
+        Opening::Other => Ok(Part::Bare(file)),
     }
 }
 
-fn in_directory(file: &[u8], tag: u32) -> Found<'_>
-    ensures { meaning result ≡ by_directory file.now tag }
+fn in_directory(file: &[u8], tag: u32) -> Result<Part<'_>, FontFault>
+    ensures { meaning result ≡ part_by file.now (by_directory file.now tag) }
 {
-    let Some(number) = records(file) else {
-        return Found::ShortDirectory;
-    };
-    match find_record(file, number, tag) {
-        Some(at) => in_record(file, at),
-        None => Found::NoRecord,
-    }
+    let number = records(file).ok_or(FontFault::ShortDirectory)?;
+    let at = find_record(file, number, tag).ok_or(FontFault::NoTable)?;
+    in_record(file, at)
 }
 
 // The bytes that the record at a place leads to.
-fn in_record(file: &[u8], at: usize) -> Found<'_>
+fn in_record(file: &[u8], at: usize) -> Result<Part<'_>, FontFault>
     requires { at + 16 ≤ length file.now }
-    ensures { meaning result ≡ by_record file.now at }
+    ensures { meaning result ≡ part_by file.now (by_record file.now at) }
 {
-    let start = read_u32(file, at + 8) as usize;
-    let end = start + read_u32(file, at + 12) as usize;
-    if end <= file.len() {
-        Found::Table(&file[start..end])
-    } else {
-        Found::PastEnd
-    }
+    let start = u32_at(file, at + 8).ok_or(FontFault::PastEnd)? as usize;
+    let end = start + u32_at(file, at + 12).ok_or(FontFault::PastEnd)? as usize;
+    let bytes = file.get(start..end).ok_or(FontFault::PastEnd)?;
+    Ok(Part::InFont(bytes))
 }
