@@ -1,44 +1,27 @@
--- One part more, of a list of ranges and of a list of tags.
-use Rattle.std.proofs.Common.{◌≡◌, ℕ, ◌+◌, ◌<◌, List, [], map, length, get_or, Some, sym, refl, ap, ◌∙◌, inl, inr, ⊎_elim, arith, Bor, below_more}
+-- One part more of a list.
+use Rattle.std.proofs.Common.{◌≡◌, ℕ, ◌+◌, ◌<◌, List, [], map, length, get_or, IfSome, Option, Ok, Result, sym, ap, ◌∙◌, subst, inl, inr, ⊎_elim, arith, Bor, below_more}
+use Rattle.std.specs.Result.{result_ok}
 use Rattle.std.proofs.lemmas.List.{get_or-map}
-use Rattle.keys.specs.Slots.{Joined}
-use Rattle.keys.specs.Tags.{TagSame}
-use Rattle.keys.specs.declared.tags.Tag.{Tag}
-use Rattle.kept.specs.Ranges.{Ranges, Filled}
-use Rattle.kept.specs.Ranges as ranges
-use Rattle.kept.specs.Tags.{tag_by}
-use Rattle.kept.specs.Tags as tags
+use Rattle.kept.specs.Cuts.{Gains, Covers}
 
-pub ranges-none : (ps : List (List ℕ)) → ranges.Covers ps [] 0
-ranges-none ps = (λ i h. absurd (omega arith), λ n (i, (lt, f)). absurd (omega arith))
+module _ {W X : Type 0} (same : X → X → Type 0) (says : List ℕ → W → Type 0) (has : W → X → Type 0) (ps : List (List ℕ)) where
+  pub covers_none : (xs : List X) → length xs ≡ 0 → Covers same says has ps xs 0
+  covers_none xs none = (λ i h. absurd (omega arith), λ x (i, (lt, f)). absurd (omega arith))
 
-pub ranges_more : (ps : List (List ℕ)) (old new : List ℕ) (k : ℕ) (q : ℕ × ℕ) → ranges.Covers ps old k → Ranges (get_or ps k []) q → Filled old new q.0 (q.1 + 1) → ranges.Covers ps new (k + 1)
-ranges_more ps old new k q c w f = (
-  below_more _ _
-      (λ i h. ((c.0 i h).0, (c.0 i h).1, λ n a b. (f n).1 (inl ((c.0 i h).2 n a b))))
-      (q, w, λ n a b. (f n).1 (inr (a, b))),
-  λ n h.
-      ⊎_elim
-      (λ o. let d = c.1 n o in let lt : d.0 < k + 1 = omega (arith, d.1) in (d.0, lt, d.2, d.3, d.4, d.5))
-      (λ (a, b). let lt : k < k + 1 = omega arith in (k, lt, q, w, a, b))
-      ((f n).0 h),
-)
+  pub covers_more : (old new : List X) (k : ℕ) (w : W) → Covers same says has ps old k → says (get_or ps k []) w → Gains same old new (has w) → Covers same says has ps new (k + 1)
+  covers_more old new k w c s g = (
+    below_more _ _
+        (λ i h. let d = c.0 i h in (d.0, d.1, λ x of. (g x).1 (inl (d.2 x of))))
+        (w, s, λ x of. (g x).1 (inr of)),
+    λ x h.
+        ⊎_elim
+        (λ o. let d = c.1 x o in let lt : d.0 < k + 1 = omega (arith, d.1) in (d.0, lt, d.2, d.3, d.4))
+        (λ of. let lt : k < k + 1 = omega arith in (k, lt, w, s, of))
+        ((g x).0 h),
+  )
 
-pub tags-none : (ps : List (List ℕ)) → tags.Covers ps [] 0
-tags-none ps = (λ i h. absurd (omega arith), λ t (i, (lt, f)). absurd (omega arith))
-
-pub tags-more : (ps : List (List ℕ)) (old new : List Tag) (k : ℕ) (t : Tag) → tags.Covers ps old k → tag_by (get_or ps k []) ≡ Some t.code → Joined TagSame old new t → tags.Covers ps new (k + 1)
-tags-more ps old new k t c w j = (
-  below_more _ _
-      (λ i h. ((c.0 i h).0, (c.0 i h).1, (j (c.0 i h).0).1 (inl (c.0 i h).2)))
-      (t, w, (j t).1 (inr refl)),
-  λ u h.
-      ⊎_elim
-      (λ o. let d = c.1 u o in let lt : d.0 < k + 1 = omega (arith, d.1) in (d.0, lt, d.2))
-      (λ (e : t.code ≡ u.code). let lt : k < k + 1 = omega arith in (k, lt, w ∙ ap Some e))
-      ((j u).0 h),
-)
-
--- the text of the part at a place
-pub part_at : (xs : List (Bor (List ℕ))) (k : ℕ) (x : Bor (List ℕ)) → k < length xs → x ≡ get_or xs k x → get_or (map (λ x. x.now) xs) k [] ≡ x.now
-part_at xs k x h e = get_or-map (λ x. x.now) xs k x [] h ∙ ap (λ x. x.now) (sym e)
+-- what the text of the part at a place was read as
+pub read_at : {W E : Type 0} (says : List ℕ → W → Type 0) (xs : List (Bor (List ℕ))) (k : ℕ) (d : Bor (List ℕ)) (r : Option W) (q : Result W E) (w : W) → k < length xs → r ≡ result_ok q → q ≡ Ok w → IfSome r (says (get_or xs k d).now) → says (get_or (map (λ x. x.now) xs) k []) w
+read_at says xs k d r q w within as_ok was read =
+    let said = subst (λ o. IfSome o (says (get_or xs k d).now)) (as_ok ∙ ap result_ok was) read in
+    subst (λ t. says t w) (sym (get_or-map (λ x. x.now) xs k d [] within)) said

@@ -3,7 +3,7 @@ use Rattle.std.proofs.Common.{◌≡◌, ℕ, ◌≤◌, cond, List, length, is_
 use Rattle.std.specs.List.{insert}
 use Rattle.keys.specs.Slots.{Ascending, At, Held, Between, Joined}
 use Rattle.keys.proofs.Inserts.{ascending-inserted, joined-inserted, joined-known}
-use Rattle.keys.proofs.Orders.{Ordered}
+use Rattle.keys.specs.Orders.{Ordered}
 
 -- zs is the set as it was searched
 module _ {X : Type 0} {before same : X → X → Type 0} (o : Ordered before same) (zs xs : List X) (x : X) (i : ℕ) (e : zs ≡ xs) where

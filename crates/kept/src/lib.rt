@@ -3,9 +3,15 @@
 
 mod cuts;
 mod indices;
+mod lists;
+mod parts;
+mod runs;
 mod sets;
 mod tags;
 
-pub use indices::{Unread, read_indices};
+pub use indices::read_indices;
+pub use lists::{Unread, read_set};
+pub use parts::Part;
+pub use runs::Run;
 pub use sets::put;
-pub use tags::{read_tag, read_tags};
+pub use tags::read_tags;

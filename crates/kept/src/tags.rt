@@ -1,48 +1,29 @@
-ghost use Rattle.std.specs.Prelude.{◌≡◌, length, IfOk};
-ghost use Rattle.std.specs.Option.{option_map};
+// Sets of tags.
+ghost use Rattle.std.specs.Prelude.{length, IfOk};
 ghost use Rattle.keys.specs.Slots.{Ascending};
-ghost use Rattle.keys.specs.Tags.{TagBefore};
-ghost use Rattle.kept.specs.Tags.{printable, padded, tag_by, code, Covers};
+ghost use Rattle.keys.specs.Tags.{TagBefore, TagSame};
+ghost use Rattle.kept.specs.Tags.{SpellsTag, Covers};
 ghost use Rattle.kept.specs.Cuts.{Listed};
 
-use crate::cuts::cut;
-use crate::indices::Unread;
+use crate::lists::{Unread, read_set};
+use crate::parts::Part;
 use crate::sets::put;
 use keys::Tag;
-use std::alloc::Global;
+use std::alloc::{AllocError, Global};
 
-fn is_printable(byte: u8) -> bool
-    ensures { result ≡ printable byte }
-{
-    byte >= 0x20 && byte <= 0x7E
-}
+impl Part for Tag {
+    type Key = Tag;
 
-// The byte at a place of a tag's text; after its end, a space.
-fn tag_byte(text: &[u8], at: usize) -> u8
-    ensures { result ≡ padded text.now at }
-{
-    if at < text.len() { text[at] } else { b' ' }
-}
+    ghost says = { SpellsTag };
 
-// A tag of one to four printable characters, with spaces after them.
-pub fn read_tag(text: &str) -> Option<Tag>
-    ensures { option_map code result ≡ tag_by text.now }
-{
-    let text = text.as_bytes();
-    if text.is_empty() || text.len() > 4 {
-        return None;
+    ghost has = { TagSame };
+
+    fn read(text: &str) -> Option<Tag> {
+        text.parse().ok()
     }
-    let bytes = [
-        tag_byte(text, 0),
-        tag_byte(text, 1),
-        tag_byte(text, 2),
-        tag_byte(text, 3),
-    ];
-    let [a, b, c, d] = bytes;
-    if is_printable(a) && is_printable(b) && is_printable(c) && is_printable(d) {
-        Some(Tag::new(bytes))
-    } else {
-        None
+
+    fn put_into(self, set: &mut Vec<Tag>) -> Result<(), AllocError> {
+        put(set, self)
     }
 }
 
@@ -51,13 +32,5 @@ pub fn read_tags(heap: Global, text: &str) -> Result<Vec<Tag>, Unread>
     ensures ascending { IfOk result (λ v. Ascending TagBefore v.items) }
     ensures covers { IfOk result (λ v. Listed text.now (λ ps. Covers ps v.items (length ps))) }
 {
-    let parts = cut(heap, text)?;
-    let mut set = Vec::new(heap);
-    for k in 0..parts.len() {
-        let Some(tag) = read_tag(parts[k]) else {
-            return Err(Unread::WrongPart);
-        };
-        put(&mut set, tag)?;
-    }
-    Ok(set)
+    read_set::<Tag>(heap, text)
 }

@@ -2,3 +2,4 @@ pub mod Orders
 pub mod Pairs
 pub mod Slots
 pub mod Tags
+pub mod Texts

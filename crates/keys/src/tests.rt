@@ -3,6 +3,7 @@ use crate::order::Key;
 use crate::pairs::Pair;
 use crate::slots::{Full, contains, find, insert, is_ascending};
 use crate::tags::Tag;
+use crate::texts::NoTag;
 use std::cmp::Ordering;
 
 #[test]
@@ -51,6 +52,14 @@ fn orders_tags(rt: HostRuntime) {
     assert_eq!(rt; insert(&mut slots, 3, default), Ok(3));
     assert_eq!(rt; find(&slots[0..3], latin), Ok(2));
     assert_eq!(rt; slots[1].to_bytes(), *b"cyrl");
+}
+
+#[test]
+fn reads_tags(rt: HostRuntime) {
+    assert_eq!(rt; "latn".parse::<Tag>(), Ok(Tag::new(*b"latn")));
+    assert_eq!(rt; "ab".parse::<Tag>(), Ok(Tag::new(*b"ab  ")));
+    assert_eq!(rt; "".parse::<Tag>(), Err(NoTag));
+    assert_eq!(rt; "latin".parse::<Tag>(), Err(NoTag));
 }
 
 #[test]

@@ -1,11 +1,12 @@
-use Rattle.std.proofs.Common.{◌≡◌, ℕ, ◌≤◌, List, ◌∷◌, ◌++◌, IfSome, Some, None, Option, inr, lit<}
+use Rattle.std.proofs.Common.{◌≡◌, ℕ, List, ◌∷◌, ◌++◌, IfSome, Some, None, Option, inr, lit<}
 use Rattle.std.proofs.lemmas.Str.Pattern.{split_parts}
 use Rattle.kept.specs.Ranges.{Both, Ranges}
+use Rattle.kept.specs.declared.runs.Run.{Run}
 use Rattle.kept.proofs.indices.read_range.Goals as goal
 
-from-two : (bs a b : List ℕ) (r : Option (ℕ × ℕ)) → bs ≡ a ++ (45 ∷ b) → IfSome r (λ p. (p.0 ≤ p.1) × Both a b p) → IfSome r (Ranges bs)
+from-two : (bs a b : List ℕ) (r : Option Run) → bs ≡ a ++ (45 ∷ b) → IfSome r (Both a b) → IfSome r (Ranges bs)
 from-two bs a b None e h = tt
-from-two bs a b (Some p) e h = (h.0, inr (a, b, e, h.1))
+from-two bs a b (Some p) e h = inr (a, b, e, h)
 
 pub returns-in-Some : goal.returns-in-Some
 returns-in-Some c =
