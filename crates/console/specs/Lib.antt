@@ -4,4 +4,3 @@ pub mod Words
 pub mod Requests
 pub mod Fields
 pub mod Pages
-pub mod Files

@@ -4,7 +4,7 @@
 --   asked r         what the program's own answer says
 --   then_..         what the words after these ask for
 --   errand_by ws    what the words ask for: numbering, where the first is 'number', and else a command
-use Rattle.std.specs.Prelude.{ℕ, cond, List, Some, None, Ok, Err, codes, Option, Result}
+use Rattle.std.specs.Prelude.{◌≡◌, ℕ, cond, List, Some, None, Ok, Err, codes, Option, Result}
 use Rattle.std.specs.Str.{bytes_eq}
 use Rattle.std.specs.List.{slice_get}
 use Rattle.source.specs.declared.kinds.Kind.{Kind}
@@ -13,7 +13,9 @@ use Rattle.console.specs.declared.requests.Request.TheVariants.{Plain, NumberBui
 use Rattle.console.specs.declared.requests.RequestMisuse.{RequestMisuse}
 use Rattle.console.specs.declared.requests.RequestMisuse.TheVariants as WrongCase
 use Rattle.console.specs.declared.requests.SetWords.{SetWords}
-use Rattle.console.specs.Words.{Choice, meaning, kind_by, choice_by}
+use Rattle.console.specs.declared.arguments.Misuse.{Misuse}
+use Rattle.source.specs.Kinds.{kind_by}
+use Rattle.console.specs.Words.{Choice, meaning, choice_by}
 
 pub record Lists : Type 0 where
   pub lookups : List ℕ
@@ -41,6 +43,10 @@ asked (Err (WrongCase.UnknownTable w)) = unknown_table w.now
 asked (Err (WrongCase.PathMissing k)) = path_missing k
 asked (Err (WrongCase.ListMissing k)) = list_missing k
 asked (Err (WrongCase.WordAfterLists w)) = word_after_lists w.now
+
+-- the misuse of a command is told as it is
+abbrev pub Plainly : Misuse → RequestMisuse → Type 0
+Plainly m r = r ≡ WrongCase.Plain m
 
 abbrev pub unless_word : Errand → Option (List ℕ) → Errand
 unless_word c None = c

@@ -1,20 +1,17 @@
 -- What the words after the program's name ask for.
 --   Choice          a command, or what is wrong with the words
 --   meaning r       what the program's own answer says
---   verb_by w       the command that a word names
---   kind_text k     a table's name; kind_by w, the table that a word names
+--   then_verb ws w  the answer, where w is the first word
 --   choice_by ws    the whole answer
 use Rattle.std.specs.Prelude.{ℕ, cond, List, Some, None, Ok, Err, codes, Option, Result}
 use Rattle.std.specs.List.{slice_get}
 use Rattle.std.specs.Str.{bytes_eq}
 use Rattle.source.specs.declared.kinds.Kind.{Kind}
-use Rattle.source.specs.declared.kinds.Kind.TheVariants.{Gsub, Gpos}
+use Rattle.source.specs.Kinds.{kind_by}
 use Rattle.console.specs.declared.arguments.Command.{Command}
 use Rattle.console.specs.declared.arguments.Command.TheVariants.{Builtin, Help, Show}
 use Rattle.console.specs.declared.arguments.Misuse.{Misuse}
 use Rattle.console.specs.declared.arguments.Misuse.TheVariants.{UnknownCommand, KindMissing, UnknownKind, FileMissing, WordTooMany}
-use Rattle.console.specs.declared.arguments.Verb.{Verb}
-use Rattle.console.specs.declared.arguments.Verb.TheVariants as VerbCase
 
 pub data Choice : Type 0 where
   builtin : Choice
@@ -36,16 +33,6 @@ meaning (Err (UnknownKind w)) = unknown_kind w.now
 meaning (Err (FileMissing k)) = file_missing k
 meaning (Err (WordTooMany w)) = word_too_many w.now
 
-abbrev pub verb_by : List ℕ → Verb
-verb_by w = cond (bytes_eq w (codes "help")) VerbCase.Help (cond (bytes_eq w (codes "show")) VerbCase.Show VerbCase.Other)
-
-abbrev pub kind_text : Kind → List ℕ
-kind_text Gsub = codes "GSUB"
-kind_text Gpos = codes "GPOS"
-
-abbrev pub kind_by : List ℕ → Option Kind
-kind_by w = cond (bytes_eq w (kind_text Gsub)) (Some Gsub) (cond (bytes_eq w (kind_text Gpos)) (Some Gpos) None)
-
 -- what follows the last word that is asked for
 abbrev pub then_end : Choice → Option (List ℕ) → Choice
 then_end c None = c
@@ -63,14 +50,14 @@ abbrev pub then_kind : List (List ℕ) → Option (List ℕ) → Choice
 then_kind ws None = kind_missing
 then_kind ws (Some w) = then_known ws w (kind_by w)
 
-abbrev pub then_verb : List (List ℕ) → List ℕ → Verb → Choice
-then_verb ws w VerbCase.Help = then_end help (slice_get ws 1)
-then_verb ws w VerbCase.Show = then_kind ws (slice_get ws 1)
-then_verb ws w VerbCase.Other = unknown_command w
+abbrev pub then_verb : List (List ℕ) → List ℕ → Choice
+then_verb ws w =
+    cond (bytes_eq w (codes "help")) (then_end help (slice_get ws 1))
+    (cond (bytes_eq w (codes "show")) (then_kind ws (slice_get ws 1)) (unknown_command w))
 
 abbrev pub then_first : List (List ℕ) → Option (List ℕ) → Choice
 then_first ws None = builtin
-then_first ws (Some w) = then_verb ws w (verb_by w)
+then_first ws (Some w) = then_verb ws w
 
 abbrev pub choice_by : List (List ℕ) → Choice
 choice_by ws = then_first ws (slice_get ws 0)

@@ -1,13 +1,14 @@
 ghost use Rattle.std.specs.Prelude.{◌≡◌, map, string_bytes};
 ghost use Rattle.std.specs.List.{slice_get};
 ghost use Rattle.std.specs.Option.{option_map};
-ghost use Rattle.console.specs.Words.{meaning, verb_by, kind_by, kind_text, then_kind, choice_by};
+ghost use Rattle.source.specs.Kinds.{kind_by};
+ghost use Rattle.console.specs.Words.{meaning, then_kind, choice_by};
 
 use source::Kind;
 use std::fmt;
 
 // What the program is asked to do.
-#[derive(Clone, Copy)]
+#[derive(Clone, Copy, PartialEq, Eq, Debug)]
 pub enum Command<'a> {
     Builtin,
     Help,
@@ -15,7 +16,7 @@ pub enum Command<'a> {
 }
 
 // What is wrong with the words after the program's name.
-#[derive(Clone, Copy)]
+#[derive(Clone, Copy, PartialEq, Eq, Debug)]
 pub enum Misuse<'a> {
     UnknownCommand(&'a str),
     KindMissing,
@@ -24,45 +25,11 @@ pub enum Misuse<'a> {
     WordTooMany(&'a str),
 }
 
-#[derive(Clone, Copy)]
-enum Verb {
-    Help,
-    Show,
-    Other,
-}
-
+// The word at a place.
 pub(crate) fn word(words: &[String], at: usize) -> Option<&str>
     ensures { option_map (λ x. x.now) result ≡ slice_get (map string_bytes words.now) at }
 {
-    if at < words.len() {
-        Some(words[at].as_str())
-    } else {
-        None
-    }
-}
-
-fn read_verb(text: &str) -> Verb
-    ensures { result ≡ verb_by text.now }
-{
-    if text == "help" {
-        Verb::Help
-    } else if text == "show" {
-        Verb::Show
-    } else {
-        Verb::Other
-    }
-}
-
-pub(crate) fn read_kind(text: &str) -> Option<Kind>
-    ensures { result ≡ kind_by text.now }
-{
-    if text == "GSUB" {
-        Some(Kind::Gsub)
-    } else if text == "GPOS" {
-        Some(Kind::Gpos)
-    } else {
-        None
-    }
+    words.get(at).map(|word| word.as_str())
 }
 
 // The command that the words after the program's name give.
@@ -72,32 +39,33 @@ pub fn read_command(words: &[String]) -> Result<Command<'_>, Misuse<'_>>
     let Some(first) = word(words, 0) else {
         return Ok(Command::Builtin);
     };
-    match read_verb(first) {
-        Verb::Help => match word(words, 1) {
+    match first {
+        "help" => match word(words, 1) {
             Some(extra) => Err(Misuse::WordTooMany(extra)),
             None => Ok(Command::Help),
         },
-        Verb::Show => read_show(words),
-        Verb::Other => Err(Misuse::UnknownCommand(first)),
+        "show" => read_show(words),
+        _ => Err(Misuse::UnknownCommand(first)),
     }
 }
 
 fn read_show(words: &[String]) -> Result<Command<'_>, Misuse<'_>>
     ensures { meaning result ≡ then_kind (map string_bytes words.now) (slice_get (map string_bytes words.now) 1) }
 {
-    let Some(name) = word(words, 1) else {
-        return Err(Misuse::KindMissing);
-    };
-    let Some(kind) = read_kind(name) else {
-        return Err(Misuse::UnknownKind(name));
-    };
-    let Some(path) = word(words, 2) else {
-        return Err(Misuse::FileMissing(kind));
-    };
+    let name = word(words, 1).ok_or(Misuse::KindMissing)?;
+    let kind = read_kind(name).ok_or(Misuse::UnknownKind(name))?;
+    let path = word(words, 2).ok_or(Misuse::FileMissing(kind))?;
     match word(words, 3) {
         Some(extra) => Err(Misuse::WordTooMany(extra)),
         None => Ok(Command::Show { kind, path }),
     }
+}
+
+// The kind that a word names.
+pub(crate) fn read_kind(name: &str) -> Option<Kind>
+    ensures { result ≡ kind_by name.now }
+{
+    name.parse().ok()
 }
 
 impl fmt::Display for Misuse<'_> {
@@ -120,10 +88,9 @@ impl fmt::Display for Misuse<'_> {
                 "there is no table '{word}' to show; write GSUB or GPOS after 'show'"
             ),
             Misuse::FileMissing(kind) => {
-                let name = kind_name(kind);
                 write!(
                     f,
-                    "'show {name}' needs a file; give the path of a font file or of a bare {name} table"
+                    "'show {kind}' needs a file; give the path of a font file or of a bare {kind} table"
                 )
             }
             Misuse::WordTooMany(word) => {
@@ -133,14 +100,5 @@ impl fmt::Display for Misuse<'_> {
                 )
             }
         }
-    }
-}
-
-pub fn kind_name(kind: Kind) -> &'static str
-    ensures { result.now ≡ kind_text kind }
-{
-    match kind {
-        Kind::Gsub => "GSUB",
-        Kind::Gpos => "GPOS",
     }
 }

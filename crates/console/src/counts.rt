@@ -5,7 +5,7 @@ use source::Standing;
 use std::fmt;
 
 // How a list stands, with the number of its things.
-#[derive(Clone, Copy)]
+#[derive(Clone, Copy, PartialEq, Eq, Debug)]
 pub struct Counted<'a> {
     pub list: Standing<u16>,
     pub thing: &'a str,

@@ -1,9 +1,8 @@
-// What a terminal program needs: the words of its command, the file that they name, and text to print.
+// What a terminal program needs: the words of its command, and text to print.
 #![tactic(auto)]
 
 mod arguments;
 mod counts;
-mod files;
 mod page;
 mod params;
 mod requests;
@@ -11,12 +10,11 @@ mod requests;
 mod tests;
 mod text;
 
-pub use arguments::{Command, Misuse, kind_name, read_command};
+pub use arguments::{Command, Misuse, read_command};
 pub use counts::Counted;
-pub use files::{FontFault, Part, kind_tag, pick_table};
 pub use page::Page;
 pub use params::{
     SetFields, SizeFields, VariantFields, character, set_fields, size_fields, variant_fields,
 };
 pub use requests::{Request, RequestMisuse, SetWords, read_request};
-pub use text::{CodePoint, Fixed, TagText, Version};
+pub use text::{CodePoint, Fixed, Version};

@@ -1,12 +1,21 @@
-ghost use Rattle.std.specs.Prelude.{◌≡◌, [], ◌++◌, string_bytes, codes, OnOk};
-ghost use Rattle.console.specs.Pages.{written, column_after, gap, gap_column, item_text, item_column};
+ghost use Rattle.std.specs.Prelude.{◌≡◌, [], ◌++◌, string_bytes, codes, IfSome, OnOk};
+ghost use Rattle.std.specs.Fmt.{AppendsText};
+ghost use Rattle.console.specs.Pages.{written, column_after, last_line, gap, gap_column, item_text, item_column};
 
 use std::alloc::{AllocError, Global};
+use std::fmt::Display;
 
 // The columns of a line, and the indent of a list that goes on.
 const WIDTH: usize = 100;
 
 const INDENT: &str = "          ";
+
+// How many bytes stand after the last end of a line.
+fn last_line_len(text: &[u8]) -> usize
+    ensures { result ≡ last_line text.now }
+{
+    text.iter().rev().take_while(|byte| **byte != b'\n').count()
+}
 
 // Text in lines. A line that ends with a comma goes on in the next one.
 #[derive(Drop)]
@@ -61,8 +70,26 @@ impl Page {
         self.end()
     }
 
+    // Adds what a value displays to the line, as `write!` and `writeln!` do.
+    pub fn write_fmt<D: Display + Drop>(&mut self, value: D) -> Result<(), AllocError>
+        ensures text { OnOk result (AppendsText (written self.old) (written self.new) (D.output value)) }
+        ensures column { OnOk result (self.new.column ≡ last_line (written self.new)) }
+    {
+        self.text.write_fmt(value)?;
+        self.column = last_line_len(self.text.as_str().as_bytes());
+        Ok(())
+    }
+
     // Adds an item to a list, after those before it, on a new line where it would pass the width.
-    pub fn item(&mut self, before: u16, item: &str) -> Result<(), AllocError>
+    pub fn item<D: Display + Drop>(&mut self, before: u16, item: D) -> Result<(), AllocError>
+        ensures text { OnOk result (IfSome (D.output item) (λ s. written self.new ≡ written self.old ++ item_text self.old.column before s)) }
+        ensures column { OnOk result (IfSome (D.output item) (λ s. self.new.column ≡ item_column self.old.column before s)) }
+    {
+        let text = item.to_string(*self.text.allocator())?;
+        self.put_item(before, text.as_str())
+    }
+
+    fn put_item(&mut self, before: u16, item: &str) -> Result<(), AllocError>
         ensures text { OnOk result (written self.new ≡ written self.old ++ item_text self.old.column before item.now) }
         ensures column { OnOk result (self.new.column ≡ item_column self.old.column before item.now) }
     {

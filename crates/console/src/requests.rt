@@ -2,14 +2,14 @@
 ghost use Rattle.std.specs.Prelude.{◌≡◌, map, string_bytes};
 ghost use Rattle.std.specs.List.{slice_get};
 ghost use Rattle.std.specs.Option.{option_map};
-ghost use Rattle.console.specs.Requests.{asked, sets_meaning, sets_by, then_numbered, errand_by};
+ghost use Rattle.console.specs.Requests.{Plainly, asked, sets_meaning, sets_by, then_numbered, errand_by};
 
-use crate::arguments::{Command, Misuse, kind_name, read_command, read_kind, word};
+use crate::arguments::{Command, Misuse, read_command, read_kind, word};
 use source::Kind;
 use std::fmt;
 
 // What the program is asked to do.
-#[derive(Clone, Copy)]
+#[derive(Clone, Copy, PartialEq, Eq, Debug)]
 pub enum Request<'a> {
     Plain(Command<'a>),
     NumberBuiltin,
@@ -21,7 +21,7 @@ pub enum Request<'a> {
 }
 
 // The words that say what is kept.
-#[derive(Clone, Copy)]
+#[derive(Clone, Copy, PartialEq, Eq, Debug)]
 pub struct SetWords<'a> {
     pub lookups: &'a str,
     pub features: &'a str,
@@ -29,7 +29,7 @@ pub struct SetWords<'a> {
 }
 
 // What is wrong with the words after the program's name.
-#[derive(Clone, Copy)]
+#[derive(Clone, Copy, PartialEq, Eq, Debug)]
 pub enum RequestMisuse<'a> {
     Plain(Misuse<'a>),
     UnknownTable(&'a str),
@@ -38,18 +38,21 @@ pub enum RequestMisuse<'a> {
     WordAfterLists(&'a str),
 }
 
+impl<'a> From<Misuse<'a>> for RequestMisuse<'a> {
+    ghost from_gives = { Plainly };
+
+    fn from(misuse: Misuse<'a>) -> RequestMisuse<'a> {
+        RequestMisuse::Plain(misuse)
+    }
+}
+
 // The request that the words after the program's name give.
 pub fn read_request(words: &[String]) -> Result<Request<'_>, RequestMisuse<'_>>
     ensures { asked result ≡ errand_by (map string_bytes words.now) }
 {
-    if let Some(first) = word(words, 0) {
-        if first == "number" {
-            return read_number(words);
-        }
-    }
-    match read_command(words) {
-        Ok(command) => Ok(Request::Plain(command)),
-        Err(misuse) => Err(RequestMisuse::Plain(misuse)),
+    match word(words, 0) {
+        Some("number") => read_number(words),
+        _ => Ok(Request::Plain(read_command(words)?)),
     }
 }
 
@@ -59,18 +62,12 @@ fn read_number(words: &[String]) -> Result<Request<'_>, RequestMisuse<'_>>
     let Some(name) = word(words, 1) else {
         return Ok(Request::NumberBuiltin);
     };
-    let Some(kind) = read_kind(name) else {
-        return Err(RequestMisuse::UnknownTable(name));
-    };
-    let Some(path) = word(words, 2) else {
-        return Err(RequestMisuse::PathMissing(kind));
-    };
-    match read_sets(words) {
-        Some(sets) => match word(words, 6) {
-            Some(extra) => Err(RequestMisuse::WordAfterLists(extra)),
-            None => Ok(Request::Number { kind, path, sets }),
-        },
-        None => Err(RequestMisuse::ListMissing(kind)),
+    let kind = read_kind(name).ok_or(RequestMisuse::UnknownTable(name))?;
+    let path = word(words, 2).ok_or(RequestMisuse::PathMissing(kind))?;
+    let sets = read_sets(words).ok_or(RequestMisuse::ListMissing(kind))?;
+    match word(words, 6) {
+        Some(extra) => Err(RequestMisuse::WordAfterLists(extra)),
+        None => Ok(Request::Number { kind, path, sets }),
     }
 }
 
@@ -94,17 +91,15 @@ impl fmt::Display for RequestMisuse<'_> {
                 "there is no table '{word}'; write GSUB or GPOS"
             ),
             RequestMisuse::PathMissing(kind) => {
-                let name = kind_name(kind);
                 write!(
                     f,
-                    "a file is missing; give after {name} the path of a font file or of a bare {name} table"
+                    "a file is missing; give after {kind} the path of a font file or of a bare {kind} table"
                 )
             }
             RequestMisuse::ListMissing(kind) => {
-                let name = kind_name(kind);
                 write!(
                     f,
-                    "a list is missing; write hub number {name} FILE LOOKUPS FEATURES SCRIPTS"
+                    "a list is missing; write hub number {kind} FILE LOOKUPS FEATURES SCRIPTS"
                 )
             }
             RequestMisuse::WordAfterLists(word) => {

@@ -1,11 +1,12 @@
 use crate::arguments::{Command, read_command};
-use crate::text::{CodePoint, Fixed, TagText};
+use crate::text::{CodePoint, Fixed};
+use keys::Tag;
 use std::test::Fail;
 
 #[test]
 fn texts(rt: HostRuntime) -> Result<(), Fail> {
     let heap = rt.alloc();
-    let (tag, number) = (TagText(0x4C415420), TagText(0x00010AFF));
+    let (tag, number) = (Tag { code: 0x4C415420 }, Tag { code: 0x00010AFF });
     assert!(rt; format!(in heap; "{tag}|{number}")?.as_str() == "LAT |0x00010AFF");
     let (low, high) = (Fixed(0xC000), Fixed(0x1333));
     assert!(rt; format!(in heap; "{low}|{high}")?.as_str() == "-1.0000|0.3000");

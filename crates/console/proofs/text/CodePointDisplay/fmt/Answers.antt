@@ -1,6 +1,10 @@
 use Rattle.std.proofs.Common.{rules}
-use Rattle.std.proofs.lemmas.Str.Ascii.{encode_ascii}
+use Rattle.std.proofs.lemmas.Fmt.{hex_byte}
+use Rattle.console.proofs.Planes.{digits_plane}
 use Rattle.console.proofs.text.CodePointDisplay.fmt.Goals as goal
 
-pub returns-then-plane-lt16-clause-writes : goal.returns-then-plane-lt16-clause-writes
-returns-then-plane-lt16-clause-writes g c = search (rules, encode_ascii)
+pub returns-then-plane-eq0-clause-writes : goal.returns-then-plane-eq0-clause-writes
+returns-then-plane-eq0-clause-writes g c = search (rules, hex_byte)
+
+pub returns-else-plane-eq0-clause-writes : goal.returns-else-plane-eq0-clause-writes
+returns-else-plane-eq0-clause-writes g c = search (rules, hex_byte, digits_plane)

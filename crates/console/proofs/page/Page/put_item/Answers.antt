@@ -2,8 +2,8 @@ use Rattle.std.proofs.Common.{◌≡◌, ◌++◌, ap, ◌∙◌, rules}
 use Rattle.std.proofs.lemmas.List.{append_assoc}
 use Rattle.console.proofs.Adding.{text-then, column-then}
 use Rattle.console.specs.Pages.{written, column_after, comma, comma_column, gap, gap_column, item_text, item_column}
-use Rattle.console.proofs.page.Page.item.Goals as goal
-use Rattle.console.proofs.page.Page.item.Goals.{then-before-gt0+in_ok-put, else-before-gt0}
+use Rattle.console.proofs.page.Page.put_item.Goals as goal
+use Rattle.console.proofs.page.Page.put_item.Goals.{then-before-gt0+in_ok-put, else-before-gt0}
 
 pub returns : goal.returns
 returns c =
