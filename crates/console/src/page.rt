@@ -76,7 +76,7 @@ impl Page {
         ensures column { OnOk result (self.new.column ≡ last_line (written self.new)) }
     {
         self.text.write_fmt(value)?;
-        self.column = last_line_len(self.text.as_str().as_bytes());
+        self.column = last_line_len(self.text.as_bytes());
         Ok(())
     }
 
