@@ -1,16 +1,15 @@
-ghost use Rattle.std.specs.Prelude.{◌≤◌, length, IfOk};
+// The sets that are kept, as words give them.
+ghost use Rattle.std.specs.Prelude.{ℕ, ◌≤◌, length, IfOk};
 ghost use Rattle.keys.specs.Slots.{Ascending};
-ghost use Rattle.keys.specs.Tags.{TagBefore};
-ghost use Rattle.kept.specs.Ranges.{Ascends};
 ghost use Rattle.numbering.specs.Numbering.{Kept};
 
 use crate::faults::Untold;
 use crate::named::{all_features, all_lookups, all_scripts};
 use console::SetWords;
-use kept::{Unread, read_indices, read_tags};
+use kept::{Part, Run, Unread, read_set};
 use keys::Tag;
 use source::Source;
-use std::alloc::Global;
+use std::alloc::{AllocError, Global};
 
 // The lookups, features and script tags that are kept.
 #[derive(Drop)]
@@ -18,82 +17,114 @@ pub struct KeptSets {
     pub lookups: Vec<u16>,
     pub features: Vec<u16>,
     pub scripts: Vec<Tag>,
+    ghost sets: { Kept lookups.items features.items scripts.items },
 }
 
-// A set that a word lists, of which `none` has nothing.
-fn listed(heap: Global, word: &str) -> Result<Vec<u16>, Unread>
-    ensures { IfOk result (λ v. Ascends v.items) }
-{
-    if word == "none" {
-        return Ok(Vec::new(heap));
+// One of the sets: what a part of its list is, how many it may have, what `all` means, and what is wrong with a word.
+trait Choice {
+    type Part: Part;
+
+    const MOST: usize;
+
+    ghost MOST: { ℕ };
+
+    fn all<S: Source>(
+        heap: Global,
+        source: &S,
+    ) -> Result<Vec<<Self::Part as Part>::Key>, AllocError>
+        ensures { IfOk result (λ v. Ascending Self.Part.Key.before v.items) };
+
+    fn not_listed(word: &str) -> Untold<'_>;
+
+    fn too_many<'a>(count: usize) -> Untold<'a>;
+}
+
+struct Lookups;
+
+impl Choice for Lookups {
+    type Part = Run;
+
+    const MOST: usize = 1024;
+
+    ghost MOST = { 1024 };
+
+    fn all<S: Source>(heap: Global, source: &S) -> Result<Vec<u16>, AllocError> {
+        all_lookups(heap, source)
     }
-    read_indices(heap, word)
+
+    fn not_listed(word: &str) -> Untold<'_> {
+        Untold::NotLookups(word)
+    }
+
+    fn too_many<'a>(count: usize) -> Untold<'a> {
+        Untold::TooManyLookups(count)
+    }
 }
 
-fn keep_lookups<'a, S: Source>(
+struct Features;
+
+impl Choice for Features {
+    type Part = Run;
+
+    const MOST: usize = 512;
+
+    ghost MOST = { 512 };
+
+    fn all<S: Source>(heap: Global, source: &S) -> Result<Vec<u16>, AllocError> {
+        all_features(heap, source)
+    }
+
+    fn not_listed(word: &str) -> Untold<'_> {
+        Untold::NotFeatures(word)
+    }
+
+    fn too_many<'a>(count: usize) -> Untold<'a> {
+        Untold::TooManyFeatures(count)
+    }
+}
+
+struct Scripts;
+
+impl Choice for Scripts {
+    type Part = Tag;
+
+    const MOST: usize = 64;
+
+    ghost MOST = { 64 };
+
+    fn all<S: Source>(heap: Global, source: &S) -> Result<Vec<Tag>, AllocError> {
+        all_scripts(heap, source)
+    }
+
+    fn not_listed(word: &str) -> Untold<'_> {
+        Untold::NotScripts(word)
+    }
+
+    fn too_many<'a>(count: usize) -> Untold<'a> {
+        Untold::TooManyScripts(count)
+    }
+}
+
+// The set that a word gives: all, none, or those that it lists.
+fn keep_set<'a, C: Choice, S: Source>(
     heap: Global,
     source: &S,
     word: &'a str,
-) -> Result<Vec<u16>, Untold<'a>>
-    ensures { IfOk result (λ v. Ascends v.items × (length v.items ≤ 1024)) }
+) -> Result<Vec<<C::Part as Part>::Key>, Untold<'a>>
+    ensures ascending { IfOk result (λ v. Ascending C.Part.Key.before v.items) }
+    ensures few { IfOk result (λ v. length v.items ≤ C.MOST) }
 {
-    let set = if word == "all" {
-        all_lookups(heap, source)?
-    } else {
-        match listed(heap, word) {
+    let set = match word {
+        "all" => C::all(heap, source)?,
+        "none" => Vec::new(heap),
+        list => match read_set::<C::Part>(heap, list) {
             Ok(set) => set,
             Err(Unread::Memory) => return Err(Untold::Memory),
-            Err(Unread::WrongPart) => return Err(Untold::NotLookups(word)),
-        }
+            Err(Unread::WrongPart) => return Err(C::not_listed(word)),
+        },
     };
-    if set.len() > 1024 {
-        return Err(Untold::TooManyLookups(set.len()));
-    }
-    Ok(set)
-}
-
-fn keep_features<'a, S: Source>(
-    heap: Global,
-    source: &S,
-    word: &'a str,
-) -> Result<Vec<u16>, Untold<'a>>
-    ensures { IfOk result (λ v. Ascends v.items × (length v.items ≤ 512)) }
-{
-    let set = if word == "all" {
-        all_features(heap, source)?
-    } else {
-        match listed(heap, word) {
-            Ok(set) => set,
-            Err(Unread::Memory) => return Err(Untold::Memory),
-            Err(Unread::WrongPart) => return Err(Untold::NotFeatures(word)),
-        }
-    };
-    if set.len() > 512 {
-        return Err(Untold::TooManyFeatures(set.len()));
-    }
-    Ok(set)
-}
-
-fn keep_scripts<'a, S: Source>(
-    heap: Global,
-    source: &S,
-    word: &'a str,
-) -> Result<Vec<Tag>, Untold<'a>>
-    ensures { IfOk result (λ v. Ascending TagBefore v.items × (length v.items ≤ 64)) }
-{
-    let set = if word == "all" {
-        all_scripts(heap, source)?
-    } else if word == "none" {
-        Vec::new(heap)
-    } else {
-        match read_tags(heap, word) {
-            Ok(set) => set,
-            Err(Unread::Memory) => return Err(Untold::Memory),
-            Err(Unread::WrongPart) => return Err(Untold::NotScripts(word)),
-        }
-    };
-    if set.len() > 64 {
-        return Err(Untold::TooManyScripts(set.len()));
+    if set.len() > C::MOST {
+        return Err(C::too_many(set.len()));
     }
     Ok(set)
 }
@@ -106,9 +137,12 @@ pub fn keep<'a, S: Source>(
 ) -> Result<KeptSets, Untold<'a>>
     ensures { IfOk result (λ k. Kept k.lookups.items k.features.items k.scripts.items) }
 {
+    let lookups = keep_set::<Lookups, S>(heap, source, words.lookups)?;
+    let features = keep_set::<Features, S>(heap, source, words.features)?;
+    let scripts = keep_set::<Scripts, S>(heap, source, words.scripts)?;
     Ok(KeptSets {
-        lookups: keep_lookups(heap, source, words.lookups)?,
-        features: keep_features(heap, source, words.features)?,
-        scripts: keep_scripts(heap, source, words.scripts)?,
+        lookups,
+        features,
+        scripts,
     })
 }

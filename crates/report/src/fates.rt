@@ -1,11 +1,12 @@
-ghost use Rattle.std.specs.Prelude.{◌≡◌, MatchOption, slice_index};
+// What becomes of kept features.
+ghost use Rattle.std.specs.Prelude.{MatchOption};
 ghost use Rattle.numbering.specs.Numbering.{held};
 ghost use Rattle.report.specs.Fates.{Lacks, Stands, Like, Fated};
 
 use numbering::Numbering;
 
 // What becomes of a kept feature.
-#[derive(Clone, Copy)]
+#[derive(Clone, Copy, PartialEq, Eq, Debug)]
 pub enum Fate {
     // It does not survive.
     Dropped,
@@ -21,19 +22,7 @@ pub enum Fate {
 fn place_of(list: &[u16], x: u16) -> Option<usize>
     ensures { MatchOption result (Lacks list.now x) (Stands list.now x) }
 {
-    for k in 0..list.len() {
-        if list[k] == x {
-            return Some(k);
-        }
-    }
-    None
-}
-
-// The number at a place, 0 past the end.
-fn number_at(list: &[u16], at: usize) -> u16
-    ensures { result ≡ slice_index list.now at }
-{
-    if at < list.len() { list[at] } else { 0 }
+    list.iter().position(|y| *y == x)
 }
 
 // The earliest match whose number is shared.
@@ -43,10 +32,7 @@ fn shared(retained: &[u16], earliest: u16, index: u16) -> Option<u16>
     if earliest == index {
         return None;
     }
-    match place_of(retained, earliest) {
-        Some(_) => Some(earliest),
-        None => None,
-    }
+    place_of(retained, earliest).map(|_| earliest)
 }
 
 // What becomes of a kept feature, by the lists of a numbering.
@@ -67,7 +53,7 @@ fn fate_in(
     }
     match place_of(retained, index) {
         Some(place) => Fate::Numbered {
-            number: number_at(numbers, place),
+            number: numbers.get(place).copied().unwrap_or(0),
             like: shared(retained, earliest[at], index),
         },
         None => Fate::Unnamed,

@@ -1,8 +1,9 @@
+use source::Refusal;
 use std::alloc::AllocError;
 use std::fmt;
 
 // Why nothing is told, in one line that says what to do.
-#[derive(Clone, Copy)]
+#[derive(Clone, Copy, PartialEq, Eq, Debug)]
 pub enum Untold<'a> {
     Memory,
     NotLookups(&'a str),
@@ -17,6 +18,13 @@ pub enum Untold<'a> {
 impl<'a> From<AllocError> for Untold<'a> {
     fn from(_error: AllocError) -> Untold<'a> {
         Untold::Memory
+    }
+}
+
+// A numbering is refused where too many language systems would be kept, and for no other reason.
+impl<'a> From<Refusal> for Untold<'a> {
+    fn from(_refusal: Refusal) -> Untold<'a> {
+        Untold::TooManyPairs
     }
 }
 

@@ -32,16 +32,6 @@ pub(crate) fn all_scripts<S: Source>(heap: Global, source: &S) -> Result<Vec<Tag
     Ok(set)
 }
 
-// Puts a lookup, if there is one, into a set.
-fn put_some(set: &mut Vec<u16>, lookup: Option<u16>) -> Result<(), AllocError>
-    ensures { Ascends set.old.items → Ascends set.new.items }
-{
-    match lookup {
-        Some(index) => put(set, index),
-        None => Ok(()),
-    }
-}
-
 // Puts the lookups of a feature into a set.
 fn put_lookups<S: Source>(
     set: &mut Vec<u16>,
@@ -51,7 +41,9 @@ fn put_lookups<S: Source>(
     ensures { Ascends set.old.items → Ascends set.new.items }
 {
     for k in 0..source.feature(place).count() {
-        put_some(set, source.lookup(place, k))?;
+        if let Some(lookup) = source.lookup(place, k) {
+            put(set, lookup)?;
+        }
     }
     Ok(())
 }

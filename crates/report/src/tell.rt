@@ -1,44 +1,39 @@
 ghost use Rattle.std.specs.Prelude.{map};
-ghost use Rattle.numbering.specs.Numbering.{Kept, Answered};
+ghost use Rattle.numbering.specs.Numbering.{Answered};
 ghost use Rattle.numbering.specs.Systems.{code_of};
 
 use crate::choices::{KeptSets, keep};
 use crate::faults::Untold;
-use crate::features::write_features;
+use crate::features::{Account, first_unread};
 use crate::systems::write_pairs;
 use console::{Page, SetWords};
 use numbering::{Numbering, Unnumbered, number_features};
 use source::{Refusal, Source};
 use std::alloc::{AllocError, Global};
 
-fn write_sizes(heap: Global, page: &mut Page, sets: &KeptSets) -> Result<(), AllocError> {
+fn write_sizes(page: &mut Page, sets: &KeptSets) -> Result<(), AllocError> {
     let (lookups, features, scripts) = (
         sets.lookups.len(),
         sets.features.len(),
         sets.scripts.len(),
     );
-    page.line(format!(in heap;
+    writeln!(
+        page,
         "Kept: lookups {lookups}, features {features}, script tags {scripts}"
-    )?.as_str())
+    )
 }
 
-fn write_told<S: Source>(
-    heap: Global,
-    source: &S,
-    page: &mut Page,
-    sets: &KeptSets,
-    numbering: &Numbering,
-) -> Result<(), AllocError> {
-    write_sizes(heap, page, sets)?;
-    write_features(heap, source, page, sets, numbering)?;
-    write_pairs(heap, source, page, numbering.pairs.as_slice())?;
+fn write_told<S: Source>(page: &mut Page, account: &Account<'_, S>) -> Result<(), AllocError> {
+    let numbering = account.numbering;
+    write_sizes(page, account.sets)?;
+    account.write_features(page)?;
+    write_pairs(account.source, page, numbering.pairs.as_slice())?;
     let (retained, own) = (numbering.retained.as_slice().len(), numbering.own);
-    page.line(format!(in heap; "Features retained: {retained}, under {own} numbers")?.as_str())
+    writeln!(page, "Features retained: {retained}, under {own} numbers")
 }
 
 // The numbering of kept sets.
 fn number_kept<S: Source>(source: &S, sets: &KeptSets) -> Result<Numbering, Refusal>
-    requires { Kept sets.now.lookups.items sets.now.features.items sets.now.scripts.items }
     ensures { Answered (S.reading source.now) sets.now.lookups.items sets.now.features.items (map code_of sets.now.scripts.items) result }
 {
     match number_features(
@@ -63,14 +58,18 @@ pub fn tell_numbering<'a, S: Source>(
     words: SetWords<'a>,
 ) -> Result<Page, Untold<'a>> {
     let sets = keep(heap, source, words)?;
-    match number_kept(source, &sets) {
-        Ok(numbering) => {
-            let mut page = Page::new(heap);
-            page.line(heading)?;
-            page.end()?;
-            write_told(heap, source, &mut page, &sets, &numbering)?;
-            Ok(page)
-        }
-        Err(_) => Err(Untold::TooManyPairs),
-    }
+    let numbering = number_kept(source, &sets)?;
+    let mut page = Page::new(heap);
+    page.line(heading)?;
+    page.end()?;
+    write_told(
+        &mut page,
+        &Account {
+            source,
+            sets: &sets,
+            numbering: &numbering,
+            unread: first_unread(source, sets.features.as_slice()),
+        },
+    )?;
+    Ok(page)
 }
