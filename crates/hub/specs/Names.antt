@@ -4,7 +4,7 @@ use Rattle.std.specs.Prelude.{ℕ, cond, List, ◌++◌, length, codes, decimal,
 use Rattle.source.specs.Reading.{Reading}
 use Rattle.source.specs.Standings.{mapped, counted}
 use Rattle.source.specs.Questions.{feature_record}
-use Rattle.console.specs.Texts.{tag_text}
+use Rattle.keys.specs.Texts.{tag_text}
 
 abbrev pub feature_text : Reading → ℕ → List ℕ
 feature_text r i =

@@ -15,7 +15,7 @@ use std::env;
 use std::fmt::Display;
 use std::process::ExitCode;
 use troubles::{Fault, Halt, Trouble};
-use work::{Task, work_builtin, work_file};
+use work::{Show, Task, work_builtin, work_file};
 
 const USAGE: &str = "hub                  show the built-in font's table
 hub show GSUB FILE   show the GSUB table of a file
@@ -72,21 +72,21 @@ fn obey(rt: &HostRuntime, request: Request<'_>) -> Result<(), Failed> {
         Request::Plain(command) => obey_command(rt, command),
         Request::NumberBuiltin => on_builtin(
             rt,
-            Task::Number(SetWords {
+            SetWords {
                 lookups: "0,1",
                 features: "all",
                 scripts: "latn",
-            }),
+            },
         ),
-        Request::Number { kind, path, sets } => on_file(rt, kind, path, Task::Number(sets)),
+        Request::Number { kind, path, sets } => on_file(rt, kind, path, sets),
     }
 }
 
 fn obey_command(rt: &HostRuntime, command: Command<'_>) -> Result<(), Failed> {
     match command {
         Command::Help => print_usage(rt),
-        Command::Builtin => on_builtin(rt, Task::Show),
-        Command::Show { kind, path } => on_file(rt, kind, path, Task::Show),
+        Command::Builtin => on_builtin(rt, Show),
+        Command::Show { kind, path } => on_file(rt, kind, path, Show),
     }
 }
 
@@ -97,11 +97,16 @@ fn print_usage(rt: &HostRuntime) -> Result<(), Failed> {
     }
 }
 
-fn on_builtin(rt: &HostRuntime, task: Task<'_>) -> Result<(), Failed> {
+fn on_builtin<'a, T: Task<'a>>(rt: &HostRuntime, task: T) -> Result<(), Failed> {
     settle(rt, Kind::Gsub, "built in", work_builtin(rt, task))
 }
 
-fn on_file<'a>(rt: &HostRuntime, kind: Kind, path: &'a str, task: Task<'a>) -> Result<(), Failed> {
+fn on_file<'a, T: Task<'a>>(
+    rt: &HostRuntime,
+    kind: Kind,
+    path: &'a str,
+    task: T,
+) -> Result<(), Failed> {
     settle(rt, kind, path, work_file(rt, kind, path, task))
 }
 

@@ -14,8 +14,8 @@ pub(crate) fn show_table<S: Source>(
     let mut page = Page::new(heap);
     page.line(heading)?;
     page.end()?;
-    write_scripts(heap, source, &mut page)?;
-    write_features(heap, source, &mut page)?;
-    write_variations(heap, source, &mut page)?;
+    write_scripts(source, &mut page)?;
+    write_features(source, &mut page)?;
+    write_variations(source, &mut page)?;
     Ok(page)
 }

@@ -1,4 +1,4 @@
-use console::{FontFault, kind_name};
+use font::FontFault;
 use report::Untold;
 use source::{Kind, Refusal};
 use std::alloc::AllocError;
@@ -49,6 +49,24 @@ impl<'a> From<io::Error> for Fault<'a> {
     }
 }
 
+impl<'a> From<FontFault> for Fault<'a> {
+    fn from(fault: FontFault) -> Fault<'a> {
+        Fault::Font(fault)
+    }
+}
+
+impl<'a> From<Refusal> for Fault<'a> {
+    fn from(refusal: Refusal) -> Fault<'a> {
+        Fault::Refused(refusal)
+    }
+}
+
+impl<'a> From<Untold<'a>> for Fault<'a> {
+    fn from(untold: Untold<'a>) -> Fault<'a> {
+        Fault::Untold(untold)
+    }
+}
+
 // The same with the file, in one line that says what to do.
 #[derive(Clone, Copy)]
 pub struct Trouble<'a> {
@@ -59,18 +77,17 @@ pub struct Trouble<'a> {
 
 impl fmt::Display for Trouble<'_> {
     fn fmt<W: fmt::Write>(&self, f: &mut fmt::Formatter<W>) -> fmt::Result {
-        let path = self.path;
-        let name = kind_name(self.kind);
+        let (path, kind) = (self.path, self.kind);
         match self.fault {
             Fault::Unread(reason) => {
                 let why = unread_reason(reason);
                 write!(
                     f,
-                    "cannot read '{path}': {why}; give the path of a font file or of a bare {name} table"
+                    "cannot read '{path}': {why}; give the path of a font file or of a bare {kind} table"
                 )
             }
-            Fault::Font(fault) => write_font_fault(f, path, name, fault),
-            Fault::Refused(refusal) => write_refusal(f, path, name, refusal),
+            Fault::Font(fault) => write_font_fault(f, path, kind, fault),
+            Fault::Refused(refusal) => write_refusal(f, path, kind, refusal),
             Fault::Untold(untold) => write!(f, "{untold}"),
             Fault::Halted(halt) => write!(f, "{halt}"),
         }
@@ -89,7 +106,7 @@ fn unread_reason(reason: ErrorKind) -> &'static str {
 fn write_font_fault<W: fmt::Write>(
     f: &mut fmt::Formatter<W>,
     path: &str,
-    name: &str,
+    kind: Kind,
     fault: FontFault,
 ) -> fmt::Result {
     match fault {
@@ -113,12 +130,12 @@ fn write_font_fault<W: fmt::Write>(
         }
         FontFault::NoTable => write!(
             f,
-            "the font file '{path}' has no {name} table; give the path of a font that has one"
+            "the font file '{path}' has no {kind} table; give the path of a font that has one"
         ),
         FontFault::PastEnd => {
             write!(
                 f,
-                "the {name} table of '{path}' passes the end of the file; get a whole copy of the file"
+                "the {kind} table of '{path}' passes the end of the file; get a whole copy of the file"
             )
         }
     }
@@ -127,7 +144,7 @@ fn write_font_fault<W: fmt::Write>(
 fn write_refusal<W: fmt::Write>(
     f: &mut fmt::Formatter<W>,
     path: &str,
-    name: &str,
+    kind: Kind,
     refusal: Refusal,
 ) -> fmt::Result {
     let number = refusal.number();
@@ -135,13 +152,13 @@ fn write_refusal<W: fmt::Write>(
         Refusal::SourceTooLarge => {
             write!(
                 f,
-                "the {name} table of '{path}' is over 65535 bytes (refusal {number}); give a font with a smaller {name} table"
+                "the {kind} table of '{path}' is over 65535 bytes (refusal {number}); give a font with a smaller {kind} table"
             )
         }
         Refusal::BadHeader => {
             write!(
                 f,
-                "'{path}' has no {name} header of major version 1 (refusal {number}); give the path of a font file or of a bare {name} table"
+                "'{path}' has no {kind} header of major version 1 (refusal {number}); give the path of a font file or of a bare {kind} table"
             )
         }
         Refusal::TooManyPairs => {

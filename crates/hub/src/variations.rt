@@ -1,13 +1,9 @@
-use crate::features::{feature_name, write_feature};
+use crate::features::{FeatureName, write_feature};
 use console::{Counted, Fixed, Page, Version};
 use source::{Condition, FeaturePlace, Source, Standing, Substitution};
-use std::alloc::{AllocError, Global};
+use std::alloc::AllocError;
 
-pub(crate) fn write_variations<S: Source>(
-    heap: Global,
-    source: &S,
-    page: &mut Page,
-) -> Result<(), AllocError> {
+pub(crate) fn write_variations<S: Source>(source: &S, page: &mut Page) -> Result<(), AllocError> {
     page.put("Variation list:")?;
     let found = match source.variations() {
         Standing::Absent => return page.line(" absent"),
@@ -16,43 +12,37 @@ pub(crate) fn write_variations<S: Source>(
     };
     let version = Version(found.version);
     match found.count {
-        0 => page.line(format!(in heap; " version {version}, no records")?.as_str())?,
-        1 => page.line(format!(in heap; " version {version}, 1 record")?.as_str())?,
-        n => page.line(format!(in heap; " version {version}, {n} records")?.as_str())?,
+        0 => writeln!(page, " version {version}, no records")?,
+        1 => writeln!(page, " version {version}, 1 record")?,
+        n => writeln!(page, " version {version}, {n} records")?,
     }
     for at in 0..found.count {
-        page.line(format!(in heap; "  {at}")?.as_str())?;
-        write_conditions(heap, source, page, at)?;
-        write_substitution(heap, source, page, at)?;
+        writeln!(page, "  {at}")?;
+        write_conditions(source, page, at)?;
+        write_substitution(source, page, at)?;
     }
     Ok(())
 }
 
-fn write_conditions<S: Source>(
-    heap: Global,
-    source: &S,
-    page: &mut Page,
-    at: u32,
-) -> Result<(), AllocError> {
+fn write_conditions<S: Source>(source: &S, page: &mut Page, at: u32) -> Result<(), AllocError> {
     let list = source.condition_set(at);
     let count = Counted {
         list,
         thing: "condition",
     };
-    page.line(format!(in heap; "    condition set: {count}")?.as_str())?;
+    writeln!(page, "    condition set: {count}")?;
     for k in 0..list.count() {
-        write_condition(heap, page, k, source.condition(at, k))?;
+        write_condition(page, k, source.condition(at, k))?;
     }
     Ok(())
 }
 
 fn write_condition(
-    heap: Global,
     page: &mut Page,
     k: u16,
     condition: Standing<Condition>,
 ) -> Result<(), AllocError> {
-    page.put(format!(in heap; "      {k}: ")?.as_str())?;
+    write!(page, "      {k}: ")?;
     match condition {
         Standing::Absent => page.line("absent"),
         Standing::Unreadable => page.line("unreadable"),
@@ -65,48 +55,38 @@ fn write_condition(
             },
         ) => {
             let (minimum, maximum) = (Fixed(minimum), Fixed(maximum));
-            page.line(format!(in heap; "axis {axis} from {minimum} to {maximum}")?.as_str())
+            writeln!(page, "axis {axis} from {minimum} to {maximum}")
         }
     }
 }
 
-fn write_substitution<S: Source>(
-    heap: Global,
-    source: &S,
-    page: &mut Page,
-    at: u32,
-) -> Result<(), AllocError> {
+fn write_substitution<S: Source>(source: &S, page: &mut Page, at: u32) -> Result<(), AllocError> {
     page.put("    substitution:")?;
     let found = match source.substitution(at) {
         Standing::Absent => return page.line(" absent"),
         Standing::Unreadable => return page.line(" unreadable"),
         Standing::There(found) => found,
     };
-    write_head(heap, page, found)?;
+    write_head(page, found)?;
     for k in 0..found.count {
         if let Some(index) = source.substituted_index(at, k) {
-            let name = feature_name(heap, source, index)?;
-            let head = format!(in heap; "      {name} ->")?;
-            write_feature(
-                heap,
-                source,
-                page,
-                head.as_str(),
-                FeaturePlace::Alternate {
-                    variation: at,
-                    substitution: k,
-                },
-            )?;
+            let name = FeatureName { source, index };
+            write!(page, "      {name} ->")?;
+            let place = FeaturePlace::Alternate {
+                variation: at,
+                substitution: k,
+            };
+            write_feature(source, page, place)?;
         }
     }
     Ok(())
 }
 
-fn write_head(heap: Global, page: &mut Page, found: Substitution) -> Result<(), AllocError> {
+fn write_head(page: &mut Page, found: Substitution) -> Result<(), AllocError> {
     let version = Version(found.version);
     let count = Counted {
         list: Standing::There(found.count),
         thing: "record",
     };
-    page.line(format!(in heap; " version {version}, {count}")?.as_str())
+    writeln!(page, " version {version}, {count}")
 }

@@ -1,74 +1,59 @@
 // What is done with a table: it is shown, or its features are numbered.
 use crate::show::show_table;
 use crate::troubles::Fault;
-use console::{Part, SetWords, kind_name, pick_table};
+use console::{Page, SetWords};
+use font::{Part, find_table};
+use keys::Tag;
 use report::tell_numbering;
 use source::{Kind, Source};
-use std::alloc::AllocError;
+use std::alloc::Global;
 use std::fs;
 use table::Table;
 
+// What is told of a table under a heading.
+pub(crate) trait Task<'a>: Copy {
+    fn page<S: Source>(self, heap: Global, source: &S, heading: &str) -> Result<Page, Fault<'a>>;
+}
+
+// Each part of the table is told.
 #[derive(Clone, Copy)]
-pub enum Task<'a> {
-    Show,
-    Number(SetWords<'a>),
-}
+pub(crate) struct Show;
 
-pub(crate) fn work_builtin<'a>(rt: &HostRuntime, task: Task<'a>) -> Result<(), Fault<'a>> {
-    let source = rows::builtin();
-    let name = kind_name(source.kind());
-    let heading = format!(in rt.alloc(); "{name} table, built in")?;
-    print_table(rt, &source, heading.as_str(), task)
-}
-
-pub(crate) fn work_file<'a>(
-    rt: &HostRuntime,
-    kind: Kind,
-    path: &str,
-    task: Task<'a>,
-) -> Result<(), Fault<'a>> {
-    let file = match fs::read(rt, path) {
-        Ok(file) => file,
-        Err(error) => return Err(Fault::Unread(error.kind())),
-    };
-    let (bytes, holder) = match pick_table(file.as_slice(), kind) {
-        Ok(Part::InFont(bytes)) => (bytes, "font file"),
-        Ok(Part::Bare(bytes)) => (bytes, "bare table"),
-        Err(fault) => return Err(Fault::Font(fault)),
-    };
-    match Table::open(kind, bytes) {
-        Ok(table) => {
-            let heading = file_heading(rt, kind, bytes.len(), holder, path)?;
-            print_table(rt, &table, heading.as_str(), task)
-        }
-        Err(refusal) => Err(Fault::Refused(refusal)),
+impl<'a> Task<'a> for Show {
+    fn page<S: Source>(self, heap: Global, source: &S, heading: &str) -> Result<Page, Fault<'a>> {
+        Ok(show_table(heap, source, heading)?)
     }
 }
 
-fn file_heading(
-    rt: &HostRuntime,
-    kind: Kind,
-    size: usize,
-    holder: &str,
-    path: &str,
-) -> Result<String, AllocError> {
-    let name = kind_name(kind);
-    format!(in rt.alloc(); "{name} table, {size} bytes, of the {holder} '{path}'")
+// The features are numbered that the words keep.
+impl<'a> Task<'a> for SetWords<'a> {
+    fn page<S: Source>(self, heap: Global, source: &S, heading: &str) -> Result<Page, Fault<'a>> {
+        Ok(tell_numbering(heap, source, heading, self)?)
+    }
 }
 
-fn print_table<'a, S: Source>(
+pub(crate) fn work_builtin<'a, T: Task<'a>>(rt: &HostRuntime, task: T) -> Result<(), Fault<'a>> {
+    let source = rows::builtin();
+    let kind = source.kind();
+    let heading = format!(in rt.alloc(); "{kind} table, built in")?;
+    let page = task.page(rt.alloc(), &source, heading.as_str())?;
+    Ok(rt.print(page.as_str())?)
+}
+
+pub(crate) fn work_file<'a, T: Task<'a>>(
     rt: &HostRuntime,
-    source: &S,
-    heading: &str,
-    task: Task<'a>,
+    kind: Kind,
+    path: &str,
+    task: T,
 ) -> Result<(), Fault<'a>> {
-    let page = match task {
-        Task::Show => show_table(rt.alloc(), source, heading)?,
-        Task::Number(sets) => match tell_numbering(rt.alloc(), source, heading, sets) {
-            Ok(page) => page,
-            Err(untold) => return Err(Fault::Untold(untold)),
-        },
+    let file = fs::read(rt, path).map_err(|error| Fault::Unread(error.kind()))?;
+    let (bytes, holder) = match find_table(file.as_slice(), Tag::from(kind))? {
+        Part::InFont(bytes) => (bytes, "font file"),
+        Part::Bare(bytes) => (bytes, "bare table"),
     };
-    rt.print(page.as_str())?;
-    Ok(())
+    let table = Table::open(kind, bytes)?;
+    let size = bytes.len();
+    let heading = format!(in rt.alloc(); "{kind} table, {size} bytes, of the {holder} '{path}'")?;
+    let page = task.page(rt.alloc(), &table, heading.as_str())?;
+    Ok(rt.print(page.as_str())?)
 }
