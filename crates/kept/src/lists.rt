@@ -5,7 +5,7 @@ ghost use Rattle.kept.specs.Cuts.{Listed, Covers};
 
 use crate::cuts::cut;
 use crate::parts::Part;
-use std::alloc::{AllocError, Global};
+use std::alloc::{AllocError, AllocFailed, Global};
 
 // Why a word gives no set.
 #[derive(Clone, Copy, PartialEq, Eq, Debug)]
@@ -17,6 +17,12 @@ pub enum Unread {
 
 impl From<AllocError> for Unread {
     fn from(_error: AllocError) -> Unread {
+        Unread::Memory
+    }
+}
+
+impl<T: Drop> From<AllocFailed<T>> for Unread {
+    fn from(_error: AllocFailed<T>) -> Unread {
         Unread::Memory
     }
 }

@@ -1,4 +1,5 @@
-use crate::cases::{Case, NoCase, read_case};
+use crate::cases::{Case, read_case};
+use kept::Unread;
 use keys::Pair;
 use numbering::{Numbering, Unnumbered, number_features};
 use std::alloc::{AllocError, Global};
@@ -8,8 +9,8 @@ use table::Table;
 pub(crate) fn answer_line(heap: Global, line: &str, at: usize) -> Result<String, AllocError> {
     match read_case(heap, line) {
         Ok(case) => answer_case(heap, &case),
-        Err(NoCase::Wrong) => format!(in heap; "? line {at}"),
-        Err(NoCase::Memory) => Err(AllocError),
+        Err(Unread::WrongPart) => format!(in heap; "? line {at}"),
+        Err(Unread::Memory) => Err(AllocError),
     }
 }
 
@@ -46,34 +47,29 @@ fn write_numbering(heap: Global, numbering: &Numbering) -> Result<String, AllocE
     let retained = numbering.retained.as_slice();
     let (count, own) = (retained.len(), numbering.own);
     let mut text = format!(in heap; "number ok {count} {own} rows")?;
-    write_rows(heap, &mut text, retained, numbering.numbers.as_slice())?;
+    write_rows(&mut text, retained, numbering.numbers.as_slice())?;
     text.push_str(" pairs")?;
-    write_pairs(heap, &mut text, numbering.pairs.as_slice())?;
+    write_pairs(&mut text, numbering.pairs.as_slice())?;
     Ok(text)
 }
 
-fn write_rows(
-    heap: Global,
-    text: &mut String,
-    retained: &[u16],
-    numbers: &[u16],
-) -> Result<(), AllocError> {
+fn write_rows(text: &mut String, retained: &[u16], numbers: &[u16]) -> Result<(), AllocError> {
     if retained.is_empty() {
         text.push_str(" -")?;
     }
     for (old, new) in retained.iter().zip(numbers.iter()) {
-        text.push_str(format!(in heap; " {old}:{new}")?.as_str())?;
+        write!(text, " {old}:{new}")?;
     }
     Ok(())
 }
 
-fn write_pairs(heap: Global, text: &mut String, pairs: &[Pair]) -> Result<(), AllocError> {
+fn write_pairs(text: &mut String, pairs: &[Pair]) -> Result<(), AllocError> {
     if pairs.is_empty() {
         text.push_str(" -")?;
     }
     for pair in pairs {
         let (script, system) = (pair.script, pair.lang_sys);
-        text.push_str(format!(in heap; " {script}:{system}")?.as_str())?;
+        write!(text, " {script}:{system}")?;
     }
     Ok(())
 }

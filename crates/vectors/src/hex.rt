@@ -1,9 +1,10 @@
 ghost use Rattle.std.specs.Prelude.{◌≡◌, ◌<◌, IfSome, IfOk};
 ghost use Rattle.vectors.specs.Hex.{digit_by, byte_by, Spells};
+ghost use Rattle.vectors.specs.Tags.{SpellsTag, HasTag};
 
-use crate::cases::NoCase;
+use kept::{Part, Unread, put};
 use keys::Tag;
-use std::alloc::Global;
+use std::alloc::{AllocError, Global};
 
 // The value of a hexadecimal digit.
 fn digit_value(byte: u8) -> Option<u8>
@@ -26,31 +27,53 @@ fn byte_value(high: u8, low: u8) -> Option<u8>
 }
 
 // The bytes that hexadecimal digits give, two to a byte.
-pub(crate) fn read_hex(heap: Global, digits: &[u8]) -> Result<Vec<u8>, NoCase>
+pub(crate) fn read_hex(heap: Global, digits: &[u8]) -> Result<Vec<u8>, Unread>
     ensures { IfOk result (λ v. Spells digits.now v.items) }
 {
     if digits.len() % 2 != 0 {
-        return Err(NoCase::Wrong);
+        return Err(Unread::WrongPart);
     }
     let mut bytes = Vec::new(heap);
-    for k in 0..digits.len() / 2 {
-        let Some(byte) = byte_value(digits[2 * k], digits[2 * k + 1]) else {
-            return Err(NoCase::Wrong);
-        };
-        bytes.push(byte)?;
+    let mut left = digits;
+    while let [high, low, rest @ ..] = left {
+        bytes.push(byte_value(*high, *low).ok_or(Unread::WrongPart)?)?;
+        left = rest;
     }
     Ok(bytes)
 }
 
-// The tag that eight hexadecimal digits give.
-pub(crate) fn read_hex_tag(digits: &[u8]) -> Option<Tag> {
-    if digits.len() != 8 {
-        return None;
+// A tag that stands as eight hexadecimal digits.
+#[derive(Clone, Copy, PartialEq, Eq, Debug)]
+pub(crate) struct HexTag(pub(crate) Tag);
+
+impl HexTag {
+    fn parse(digits: &[u8]) -> Option<HexTag>
+        ensures { IfSome result (SpellsTag digits.now) }
+    {
+        let [a, b, c, d, e, f, g, h] = digits else {
+            return None;
+        };
+        Some(HexTag(Tag::new([
+            byte_value(*a, *b)?,
+            byte_value(*c, *d)?,
+            byte_value(*e, *f)?,
+            byte_value(*g, *h)?,
+        ])))
     }
-    Some(Tag::new([
-        byte_value(digits[0], digits[1])?,
-        byte_value(digits[2], digits[3])?,
-        byte_value(digits[4], digits[5])?,
-        byte_value(digits[6], digits[7])?,
-    ]))
+}
+
+impl Part for HexTag {
+    type Key = Tag;
+
+    ghost says = { SpellsTag };
+
+    ghost has = { HasTag };
+
+    fn read(text: &str) -> Option<HexTag> {
+        HexTag::parse(text.as_bytes())
+    }
+
+    fn put_into(self, set: &mut Vec<Tag>) -> Result<(), AllocError> {
+        put(set, self.0)
+    }
 }

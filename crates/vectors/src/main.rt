@@ -89,7 +89,7 @@ fn check_recorded(rt: &HostRuntime) -> Result<bool, Halt> {
     let mut page = Page::new(heap);
     let Tally { cases, same } = replay(heap, &mut page, text.as_str())?;
     let other = cases - same;
-    page.line(format!(in heap; "{cases} cases, {same} as recorded, {other} not")?.as_str())?;
+    writeln!(page, "{cases} cases, {same} as recorded, {other} not")?;
     rt.print(page.as_str())?;
     Ok(other == 0 && cases > 0)
 }

@@ -12,15 +12,14 @@ pub(crate) struct Tally {
 }
 
 fn write_difference(
-    heap: Global,
     page: &mut Page,
     at: usize,
     wanted: &str,
     given: &str,
 ) -> Result<(), AllocError> {
-    page.line(format!(in heap; "line {at} is not answered as recorded")?.as_str())?;
-    page.line(format!(in heap; "  recorded: {wanted}")?.as_str())?;
-    page.line(format!(in heap; "  given:    {given}")?.as_str())
+    writeln!(page, "line {at} is not answered as recorded")?;
+    writeln!(page, "  recorded: {wanted}")?;
+    writeln!(page, "  given:    {given}")
 }
 
 // Answers the case of a line, and compares the answer with the recorded one.
@@ -35,7 +34,7 @@ fn compare(
     if given.as_str() == wanted {
         return Ok(true);
     }
-    write_difference(heap, page, at, wanted, given.as_str())?;
+    write_difference(page, at, wanted, given.as_str())?;
     Ok(false)
 }
 
@@ -44,12 +43,14 @@ pub(crate) fn replay(heap: Global, page: &mut Page, text: &str) -> Result<Tally,
     ensures { IfOk result (λ t. t.same ≤ t.cases) }
 {
     let lines = text.lines().collect::<Vec<&str>>(heap)?;
-    let cases = lines.len() / 2;
-    let mut same = 0;
-    for k in 0..cases {
-        if compare(heap, page, 2 * k + 1, lines[2 * k], lines[2 * k + 1])? {
+    let (mut cases, mut same) = (0, 0);
+    let mut left = lines.as_slice();
+    while let [case, wanted, rest @ ..] = left {
+        if compare(heap, page, 2 * cases + 1, case, wanted)? {
             same += 1;
         }
+        cases += 1;
+        left = rest;
     }
     Ok(Tally { cases, same })
 }
