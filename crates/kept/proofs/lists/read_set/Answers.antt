@@ -12,7 +12,7 @@ loop-part-init g c =
 pub loop-part-preserved : goal.loop-part-preserved
 loop-part-preserved g c =
     let p = g.P.Part in
-    (c.put_into.ensures.ascending c.loop-part.invariant.0, covers_more g.P.Key.Key.same p.says p.has _ _ _ c.loop-part.part-index c.in_ok-ok_or.field-0 c.loop-part.invariant.1 (read_at p.says c.deref-part-items.result.now c.loop-part.part-index _ c.read.result c.ok_or.result _ (omega arith) c.ok_or.ensures.ok_part c.in_ok-ok_or.was c.read.ensures) (search rules))
+    (search (rules, c.put_into.ensures.ascending), covers_more g.P.Key.Key.same p.says p.has _ _ _ c.loop-part.part-index c.in_ok-ok_or.field-0 c.loop-part.invariant.1 (read_at p.says c.deref-part-items.result.now c.loop-part.part-index _ c.read.result c.ok_or.result _ (omega arith) c.ok_or.ensures.ok_part c.in_ok-ok_or.was c.read.ensures) (search rules))
 
 pub returns : goal.returns
 returns g c =

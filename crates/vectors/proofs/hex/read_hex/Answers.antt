@@ -1,6 +1,5 @@
 use Rattle.std.proofs.Common.{◌≡◌, ℕ, ◌+◌, ◌-◌, ◌*◌, ◌<◌, ◌≤◌, List, length, drop, take, get_or, Some, refl, sym, ap, ◌∙◌, arith, rules, below_more, vec_len, vec_items, length-drop}
 use Rattle.std.proofs.lemmas.List.{places, take_all, drop-drop}
-use Rattle.std.specs.Result.{result_ok}
 use Rattle.vectors.specs.Hex.{byte_at, byte_by}
 use Rattle.vectors.proofs.hex.read_hex.Goals as goal
 
@@ -35,4 +34,5 @@ loop-left-preserved c =
     let inv = c.loop-left.invariant in
     let more : m ≡ n + 1 = search rules in
     let b = c.in_ok-ok_or.field-0 in
-    (fewer ds left old new n m b c.in-len2-up.len_at_least inv.0 inv.1 more, left_over ds left old new n m b c.in-len2-up.len_at_least inv.0 inv.1 more, spelt_more ds left old new n m b c.in-len2-up.len_at_least inv.0 inv.1 more inv.2 c.push.ensures.by_index.0 (sym (pair_at ds left old new n m b c.in-len2-up.len_at_least inv.0 inv.1 more _ _ refl refl) ∙ sym c.byte_value.ensures ∙ c.ok_or.ensures.ok_part ∙ ap result_ok c.in_ok-ok_or.was) (c.push.ensures.by_index.1 0 (search rules)))
+    let told : byte_by (get_or left 0 0) (get_or left 1 0) ≡ Some b = search rules in
+    (fewer ds left old new n m b c.in-len2-up.len_at_least inv.0 inv.1 more, left_over ds left old new n m b c.in-len2-up.len_at_least inv.0 inv.1 more, spelt_more ds left old new n m b c.in-len2-up.len_at_least inv.0 inv.1 more inv.2 c.push.ensures.by_index.0 (sym (pair_at ds left old new n m b c.in-len2-up.len_at_least inv.0 inv.1 more _ _ refl refl) ∙ told) (c.push.ensures.by_index.1 0 (search rules)))
