@@ -1,6 +1,6 @@
 -- Chains of places, and a walk along one to a feature that is alike.
 --   Past at     the walk is at a place of the chain, and no survivor from there on is alike
-use Rattle.std.proofs.Common.{◌≡◌, ℕ, zero, suc, ◌+◌, ◌-◌, ◌%◌, ◌<◌, ◌≤◌, true, false, eqb, ◌≢◌, List, [], ◌∷◌, length, get_or, take, set, sym, refl, ap, ◌∙◌, subst, ⊎_elim, add-one, arith, below_more}
+use Rattle.std.proofs.Common.{◌≡◌, ℕ, zero, suc, ◌+◌, ◌-◌, ◌%◌, ◌<◌, ◌≤◌, true, false, eqb, ◌≢◌, List, [], ◌∷◌, length, get_or, take, set, Some, None, Option, sym, refl, ap, ◌∙◌, subst, ⊎_elim, add-one, arith, below_more}
 use Rattle.std.proofs.lemmas.List.{get_or-set_same, get_or-set_other, get_or-take, length-take-le, take-take}
 use Rattle.std.proofs.lemmas.Bool.{cases_Bool, cases_eq, cases_lt, cond_both, cond-true, cond-false, eq-eqb, ne_eqb, eqb-true, eqb-false, or_left, or_right}
 use Rattle.source.specs.Reading.{Reading}
@@ -12,41 +12,46 @@ use Rattle.numbering.specs.Stages.{kept_lookups, alike, earliest}
 use Rattle.numbering.proofs.Earlier.{same-tags, same-lookups, one-earliest}
 use Rattle.numbering.proofs.Matching.{earliest-before}
 
-module _ (f : ℕ → ℕ) where
-  last-le : (u b : ℕ) → last_in f u b ≤ u
-  last-le zero b = omega arith
-  last-le (suc u) b = cond_both (eqb (f u) b) (suc u) (last_in f u b) (λ x. x ≤ suc u) (λ e. omega arith) (λ e. omega (arith, last-le u b))
+-- a place that may be none, as the place after it
+abbrev pub after : Option ℕ → ℕ
+after None = 0
+after (Some p) = p + 1
 
-  last-bucket : (u b : ℕ) → 0 < last_in f u b → f (last_in f u b - 1) ≡ b
+module _ (f : ℕ → ℕ) where
+  last-le : (u b : ℕ) → after (last_in f u b) ≤ u
+  last-le zero b = omega arith
+  last-le (suc u) b = cond_both (eqb (f u) b) (Some u) (last_in f u b) (λ x. after x ≤ suc u) (λ e. omega arith) (λ e. omega (arith, last-le u b))
+
+  last-bucket : (u b : ℕ) → 0 < after (last_in f u b) → f (after (last_in f u b) - 1) ≡ b
   last-bucket zero b = λ h. absurd (omega arith)
   last-bucket (suc u) b =
-      cond_both (eqb (f u) b) (suc u) (last_in f u b) (λ x. 0 < x → f (x - 1) ≡ b)
-      (λ e h. let s : suc u - 1 ≡ u = omega arith in ap f s ∙ eqb-true (f u) b e)
+      cond_both (eqb (f u) b) (Some u) (last_in f u b) (λ x. 0 < after x → f (after x - 1) ≡ b)
+      (λ e h. let s : u + 1 - 1 ≡ u = omega arith in ap f s ∙ eqb-true (f u) b e)
       (λ e. last-bucket u b)
 
-  none-since : (u b p : ℕ) → last_in f u b ≤ p → p < u → f p ≡ b → ⊥
+  none-since : (u b p : ℕ) → after (last_in f u b) ≤ p → p < u → f p ≡ b → ⊥
   none-since zero b p = λ l h e. omega arith
   none-since (suc u) b p =
-      cond_both (eqb (f u) b) (suc u) (last_in f u b) (λ x. x ≤ p → p < suc u → f p ≡ b → ⊥)
+      cond_both (eqb (f u) b) (Some u) (last_in f u b) (λ x. after x ≤ p → p < suc u → f p ≡ b → ⊥)
       (λ _ l h e. omega arith)
       (λ n l h e. ⊎_elim (λ s. eqb-false (f u) b n (sym (ap f s) ∙ e)) (λ (s : p ≡ u → ⊥). none-since u b p l (omega arith) e) (cases_eq p u))
 
-  last-here : (v b : ℕ) → f v ≡ b → v + 1 ≡ last_in f (v + 1) b
-  last-here v b e = rw add-one (sym (cond-true (eqb (f v) b) (suc v) (last_in f v b) (eq-eqb (f v) b e)))
+  last-here : (v b : ℕ) → f v ≡ b → Some v ≡ last_in f (v + 1) b
+  last-here v b e = rw add-one (sym (cond-true (eqb (f v) b) (Some v) (last_in f v b) (eq-eqb (f v) b e)))
 
   last-there : (v b : ℕ) → (f v ≡ b → ⊥) → last_in f v b ≡ last_in f (v + 1) b
-  last-there v b n = rw add-one (sym (cond-false (eqb (f v) b) (suc v) (last_in f v b) (ne_eqb (f v) b n)))
+  last-there v b n = rw add-one (sym (cond-false (eqb (f v) b) (Some v) (last_in f v b) (ne_eqb (f v) b n)))
 
   module _ (k : Chains) (v b : ℕ) (heads : length k.heads ≡ 239) (nexts : length k.nexts ≡ 512) (in' : v < 512) (b-in : b < 239) where
-    pub chained_more : Chained k f v → f v ≡ b → Chained (record { heads = set k.heads b (v + 1); nexts = set k.nexts v (get_or k.heads b 0) }) f (v + 1)
+    pub chained_more : Chained k f v → f v ≡ b → Chained (record { heads = set k.heads b (Some v); nexts = set k.nexts v (get_or k.heads b None) }) f (v + 1)
     chained_more c e = record {
       from = λ a h. ⊎_elim
-          (λ s. subst (λ x. get_or (set k.heads b (v + 1)) x 0 ≡ last_in f (v + 1) x) (sym s) (get_or-set_same k.heads b (v + 1) 0 (omega arith) ∙ last-here v b e))
-          (λ (s : a ≢ b). get_or-set_other k.heads b a (v + 1) 0 s ∙ (c.from a h ∙ last-there v a (λ t. s (sym t ∙ e))))
+          (λ s. subst (λ x. get_or (set k.heads b (Some v)) x None ≡ last_in f (v + 1) x) (sym s) (get_or-set_same k.heads b (Some v) None (omega arith) ∙ last-here v b e))
+          (λ (s : a ≢ b). get_or-set_other k.heads b a (Some v) None s ∙ (c.from a h ∙ last-there v a (λ t. s (sym t ∙ e))))
           (cases_eq a b);
-      onward = below_more (λ p. get_or (set k.nexts v (get_or k.heads b 0)) p 0 ≡ last_in f p (f p)) v
-          (λ p h. let apart : p ≢ v = omega arith in get_or-set_other k.nexts v p (get_or k.heads b 0) 0 apart ∙ c.onward p h)
-          (get_or-set_same k.nexts v (get_or k.heads b 0) 0 (omega arith) ∙ (c.from b b-in ∙ ap (last_in f v) (sym e)));
+      onward = below_more (λ p. get_or (set k.nexts v (get_or k.heads b None)) p None ≡ last_in f p (f p)) v
+          (λ p h. let apart : p ≢ v = omega arith in get_or-set_other k.nexts v p (get_or k.heads b None) None apart ∙ c.onward p h)
+          (get_or-set_same k.nexts v (get_or k.heads b None) None (omega arith) ∙ (c.from b b-in ∙ ap (last_in f v) (sym e)));
     }
 
 among-at : (xs : List ℕ) (i : ℕ) → i < length xs → among xs (get_or xs i 0) ≡ true
@@ -69,28 +74,31 @@ module _ (r : Reading) (ls : List ℕ) where
         × (0 < at → bucket_in r ls (get_or vs (at - 1) 0) ≡ bucket_in r ls (get_or vs v 0))
         × ((p : ℕ) → at ≤ p → p < v → alike r ls (get_or vs p 0) (get_or vs v 0) ≡ false)
 
-    past-last : (u at : ℕ) → u ≤ v → at ≡ last_in (λ p. bucket_in r ls (get_or vs p 0)) u (bucket_in r ls (get_or vs v 0)) → ((p : ℕ) → u ≤ p → p < v → alike r ls (get_or vs p 0) (get_or vs v 0) ≡ false) → Past at
+    past-last : (u : ℕ) (at : Option ℕ) → u ≤ v → at ≡ last_in (λ p. bucket_in r ls (get_or vs p 0)) u (bucket_in r ls (get_or vs v 0)) → ((p : ℕ) → u ≤ p → p < v → alike r ls (get_or vs p 0) (get_or vs v 0) ≡ false) → Past (after at)
     past-last u at l e rest =
-        let f : ℕ → ℕ = λ p. bucket_in r ls (get_or vs p 0) in (
+        let f : ℕ → ℕ = λ p. bucket_in r ls (get_or vs p 0) in
+        subst (λ x. Past (after x)) (sym e) (
           omega (arith, last-le f u (f v)),
-          subst (λ x. 0 < x → f (x - 1) ≡ f v) (sym e) (last-bucket f u (f v)),
-          λ p h b. ⊎_elim (λ (s : p < u). unlike (get_or vs p 0) (get_or vs v 0) (none-since f u (f v) p (omega arith) s)) (λ (s : u ≤ p). rest p s b) (cases_lt p u),
+          last-bucket f u (f v),
+          λ p h b. ⊎_elim (λ (s : p < u). unlike (get_or vs p 0) (get_or vs v 0) (none-since f u (f v) p h s)) (λ (s : u ≤ p). rest p s b) (cases_lt p u),
         )
 
     module _ (k : Chains) (c : Chained k (λ p. bucket_in r ls (get_or vs p 0)) v) where
-      pub past-none : (at : ℕ) → bucket_in r ls (get_or vs v 0) < 239 → at ≡ get_or k.heads (bucket_in r ls (get_or vs v 0)) 0 → Past at
+      pub past-none : (at : Option ℕ) → bucket_in r ls (get_or vs v 0) < 239 → at ≡ get_or k.heads (bucket_in r ls (get_or vs v 0)) None → Past (after at)
       past-none at h e = past-last v at (omega arith) (e ∙ c.from (bucket_in r ls (get_or vs v 0)) h) (λ p l b. absurd (omega arith))
 
-      pub past-le : (at : ℕ) → 0 < at → at ≤ v → get_or k.nexts (at - 1) 0 < at
-      past-le at h l =
+      pub past-le : (p : ℕ) → p + 1 ≤ v → after (get_or k.nexts p None) < p + 1
+      past-le p l =
           let f : ℕ → ℕ = λ p. bucket_in r ls (get_or vs p 0) in
-          omega (arith, c.onward (at - 1) (omega arith), last-le f (at - 1) (f (at - 1)))
+          omega (arith, ap after (c.onward p (omega arith)), last-le f p (f p))
 
-      pub past_one : (at : ℕ) → 0 < at → Past at → alike r ls (get_or vs (at - 1) 0) (get_or vs v 0) ≡ false → Past (get_or k.nexts (at - 1) 0)
-      past_one at h w n =
+      pub past_one : (at : ℕ) → Past (at + 1) → alike r ls (get_or vs at 0) (get_or vs v 0) ≡ false → Past (after (get_or k.nexts at None))
+      past_one at w n =
           let f : ℕ → ℕ = λ p. bucket_in r ls (get_or vs p 0) in
-          past-last (at - 1) (get_or k.nexts (at - 1) 0) (omega (arith, w.0)) (c.onward (at - 1) (omega (arith, w.0)) ∙ ap (last_in f (at - 1)) (w.1 h)) (λ p l b.
-          ⊎_elim (λ (s : p ≡ at - 1). ap (λ q. alike r ls (get_or vs q 0) (get_or vs v 0)) s ∙ n) (λ (s : p ≢ at - 1). w.2 p (omega arith) b) (cases_eq p (at - 1)))
+          let same : at + 1 - 1 ≡ at = omega arith in
+          let here : f at ≡ f v = sym (ap f same) ∙ w.1 (omega arith) in
+          past-last at (get_or k.nexts at None) (omega (arith, w.0)) (c.onward at (omega (arith, w.0)) ∙ ap (last_in f at) here) (λ p l b.
+          ⊎_elim (λ (s : p ≡ at). ap (λ q. alike r ls (get_or vs q 0) (get_or vs v 0)) s ∙ n) (λ (s : p ≢ at). w.2 p (omega arith) b) (cases_eq p at))
 
     pub past_all : (at : ℕ) → v ≤ length vs → at ≤ 0 → Past at → get_or vs v 0 ≡ earliest r ls (take v vs) (get_or vs v 0)
     past_all at l h w =

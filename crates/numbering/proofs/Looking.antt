@@ -1,9 +1,11 @@
 -- The earliest match beside an index, and language systems that are there.
-use Rattle.std.proofs.Common.{◌≡◌, ℕ, zero, suc, ◌<◌, false, ◌&&◌, eqb, List, [], ◌∷◌, map, length, get_or, Some, None, Decides, Option, sym, refl, ap, ◌∙◌, arith}
+use Rattle.std.proofs.Common.{◌≡◌, ℕ, zero, suc, ◌<◌, false, ◌&&◌, eqb, List, [], ◌∷◌, map, length, get_or, Some, None, Ok, Err, Decides, Option, Result, sym, refl, ap, ◌∙◌, ⊎_elim, arith}
 use Rattle.std.specs.List.{slice_get}
 use Rattle.std.proofs.lemmas.List.{length-map}
-use Rattle.std.proofs.lemmas.Bool.{eq-eqb, ne_eqb, cond-true, cond-false, and_left}
-use Rattle.keys.specs.Slots.{Held}
+use Rattle.std.proofs.lemmas.Bool.{cases_Bool, eq-eqb, ne_eqb, cond-true, cond-false, and_left}
+use Rattle.std.specs.Option.{MatchOption}
+use Rattle.std.specs.Result.{result_ok}
+use Rattle.keys.specs.Slots.{Held, Found, Placed}
 use Rattle.keys.specs.Tags.{TagSame}
 use Rattle.keys.specs.declared.tags.Tag.{Tag}
 use Rattle.source.specs.declared.parts.Standing.{Standing}
@@ -44,6 +46,11 @@ pub system-count : {X : Type 0} (f : ℕ → X) (s : Standing LangSysTable) (l :
 system-count f s l e =
     let t = system-there s l e in
     ap (λ x. x.count) t.2 ∙ (sym (length-map t.0.indices f) ∙ sym (ap (λ x. length (map f (indices_of x))) t.1))
+
+-- what a search answers
+pub found-place : (xs : List ℕ) (x : ℕ) (r : Result ℕ ℕ) (o : Option ℕ) → o ≡ result_ok r → Found (λ (a b : ℕ). a ≡ b) xs x r → Placed (λ a b. a < b) (λ (a b : ℕ). a ≡ b) xs x r → MatchOption o (among xs x ≡ false) (λ q. (q < length xs) × (get_or xs q 0 ≡ x))
+found-place xs x (Ok q) o e f p = rw e (f.0, f.1 0)
+found-place xs x (Err i) o e f p = rw e (⊎_elim (λ h. absurd (p.0 ((among-decides xs x).0 h))) (λ h. h) (cases_Bool (among xs x)))
 
 -- tags as numbers
 

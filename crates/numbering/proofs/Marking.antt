@@ -1,7 +1,8 @@
 -- Flags beside matched indices.
 use Rattle.std.proofs.Common.{◌≡◌, ℕ, ◌+◌, ◌<◌, ◌≤◌, Bool, true, false, ◌||◌, eqb, ◌≢◌, List, [], ◌∷◌, ◌++◌, length, get_or, take, set, sym, refl, ap, ◌∙◌, ⊎_elim, arith}
-use Rattle.std.proofs.lemmas.List.{get_or-set_same, get_or-set_other, take_more, take_all, length-set}
+use Rattle.std.proofs.lemmas.List.{get_or_default, get_or-set_same, get_or-set_other, take_more, take_all, length-set}
 use Rattle.std.proofs.lemmas.Bool.{eq-eqb, ne_eqb, cases_eq, cases_lt, cond-true, cond-false}
+use Rattle.keys.specs.Slots.{Held}
 use Rattle.source.specs.declared.parts.LangSys.{LangSys}
 use Rattle.source.specs.declared.parts.Standing.{Standing}
 use Rattle.source.specs.declared.parts.Standing.TheVariants.{There}
@@ -45,24 +46,23 @@ flag_at ms fs p x up room h e q k =
     (λ n. get_or-set_other fs p q true false n ∙ sym (ap (λ b. b || get_or fs q false) (ne_eqb x (get_or ms q 0) (λ s. apart ms q p up k h n (sym (e 0 ∙ s))))))
     (cases_eq q p)
 
-pub marked-at : (ms : List ℕ) (c : PruneLangSysContext) (p x : ℕ) → Ascends ms → length ms ≤ length c.named → p < length ms → ((d : ℕ) → get_or ms p d ≡ x) → Marked ms (eqb x) c (record { script_count = c.script_count; langsys_feature_count = c.langsys_feature_count; named = set c.named p true; pairs = c.pairs; pair_count = c.pair_count })
-marked-at ms c p x up room h e = record { scripts = refl; sum = refl; pairs = refl; filled = refl; flags = length-set c.named p true; named = flag_at ms c.named p x up room h e }
+pub marked-at : (ms : List ℕ) (c : PruneLangSysContext) (p x : ℕ) → Ascends ms → length ms ≤ length c.named → p < length ms → ((d : ℕ) → get_or ms p d ≡ x) → Marked ms (eqb x) c (record { script_count = c.script_count; langsys_feature_count = c.langsys_feature_count; named = set c.named p true; pairs = c.pairs })
+marked-at ms c p x up room h e = record { scripts = refl; sum = refl; pairs = refl; flags = length-set c.named p true; named = flag_at ms c.named p x up room h e }
+
+pub marked-absent : (ms : List ℕ) (c : PruneLangSysContext) (x : ℕ) → (Held (λ (a b : ℕ). a ≡ b) ms x → ⊥) → Marked ms (eqb x) c c
+marked-absent ms c x n =
+    record { scripts = refl; sum = refl; pairs = refl; flags = refl; named = λ p h. sym (ap (λ b. b || get_or c.named p false) (ne_eqb x (get_or ms p 0) (λ e. n (p, (h, λ d. get_or_default ms p d 0 h ∙ sym e))))) }
 
 module _ {ms : List ℕ} where
   pub marked-as : {q q' : ℕ → Bool} {a b : PruneLangSysContext} → ((x : ℕ) → q x ≡ q' x) → Marked ms q a b → Marked ms q' a b
   marked-as {a = a} e m =
-      record { scripts = m.scripts; sum = m.sum; pairs = m.pairs; filled = m.filled; flags = m.flags; named = λ p h. m.named p h ∙ ap (λ t. t || get_or a.named p false) (e (get_or ms p 0)) }
-
-  pub marked-none : {q : ℕ → Bool} {a : PruneLangSysContext} → ((x : ℕ) → q x ≡ false) → Marked ms q a a
-  marked-none {a = a} e =
-      record { scripts = refl; sum = refl; pairs = refl; filled = refl; flags = refl; named = λ p h. sym (ap (λ t. t || get_or a.named p false) (e (get_or ms p 0))) }
+      record { scripts = m.scripts; sum = m.sum; pairs = m.pairs; flags = m.flags; named = λ p h. m.named p h ∙ ap (λ t. t || get_or a.named p false) (e (get_or ms p 0)) }
 
   pub marked-after : {p q : ℕ → Bool} {a b c : PruneLangSysContext} → Marked ms p a b → Marked ms q b c → Marked ms (λ x. q x || p x) a c
   marked-after {p} {q} {a} m n = record {
     scripts = n.scripts ∙ m.scripts;
     sum = n.sum ∙ m.sum;
     pairs = n.pairs ∙ m.pairs;
-    filled = n.filled ∙ m.filled;
     flags = n.flags ∙ m.flags;
     named = λ i h. n.named i h ∙ (ap (λ t. q (get_or ms i 0) || t) (m.named i h) ∙ or_assoc (q (get_or ms i 0)) (p (get_or ms i 0)) (get_or a.named i false));
   }

@@ -1,5 +1,7 @@
 -- Features that are alike.
-use Rattle.std.proofs.Common.{◌≡◌, ℕ, ◌+◌, ◌<◌, ◌≤◌, true, false, cond, ◌&&◌, eqb, List, [], ◌∷◌, ◌++◌, map, length, get_or, take, drop, sym, refl, ap, ◌∙◌, arith}
+use Rattle.std.proofs.Common.{◌≡◌, ℕ, ◌+◌, ◌<◌, ◌≤◌, Bool, true, false, cond, ◌&&◌, eqb, List, [], ◌∷◌, ◌++◌, map, length, get_or, take, drop, Some, None, Option, sym, refl, ap, ◌∙◌, arith}
+use Rattle.std.specs.List.{find}
+use Rattle.std.specs.Option.{option_map, unwrap_or}
 use Rattle.std.proofs.lemmas.Bool.{eq-eqb, ne_eqb, and_from}
 use Rattle.std.proofs.lemmas.List.{at_drop_more, at_drop_all, append-nil, drop_more, ext_get_or, get_or-map, get_or-take, length-map, length-take-le, take-append-drop, take_more, take-take, append_assoc}
 use Rattle.source.specs.declared.parts.Standing.{Standing}
@@ -23,6 +25,14 @@ front-none (There x) i rest h = absurd (h x refl)
 front-some : {X : Type 0} (s : Standing X) (i : ℕ) (rest : List ℕ) (x : X) → s ≡ There x → front s i rest ≡ i ∷ rest
 front-some s i rest x e = ap (λ t. front t i rest) e
 
+found-or : (b : Bool) (x : ℕ) (o : Option ℕ) (i : ℕ) → unwrap_or (cond b (Some x) o) i ≡ cond b x (unwrap_or o i)
+found-or true x o i = refl
+found-or false x o i = refl
+
+map-same : (o : Option ℕ) → option_map (λ y. y) o ≡ o
+map-same None = refl
+map-same (Some x) = refl
+
 module _ (r : Reading) (ls : List ℕ) where
   -- kept lookups decide between features with one tag
   pub alike_by_lookups : (j i : ℕ) → (feature_record r j).tag ≡ (feature_record r i).tag → alike r ls j i ≡ equal_lists (somes (map (if_among ls) (lookups_of (feature r (Listed j))))) (somes (map (if_among ls) (lookups_of (feature r (Listed i)))))
@@ -35,14 +45,13 @@ module _ (r : Reading) (ls : List ℕ) where
   unlike_by_tags j i n =
       ap (λ t. t && equal_lists (kept_lookups r ls j) (kept_lookups r ls i)) (ne_eqb (feature_record r j).tag (feature_record r i).tag n)
 
-  earliest-at : (js : List ℕ) (k i : ℕ) → k < length js → earliest r ls (drop k js) i ≡ cond (alike r ls (get_or js k 0) i) (get_or js k 0) (earliest r ls (drop (k + 1) js) i)
-  earliest-at js k i h = at_drop_more (λ xs. earliest r ls xs i) js k 0 h
+  -- the first that is found
+  earliest-found : (js : List ℕ) (i : ℕ) → unwrap_or (find (λ j. alike r ls j i) js) i ≡ earliest r ls js i
+  earliest-found [] i = refl
+  earliest-found (j ∷ js) i = found-or (alike r ls j i) j (find (λ k. alike r ls k i) js) i ∙ ap (cond (alike r ls j i) j) (earliest-found js i)
 
-  pub earliest-here : (js : List ℕ) (k i : ℕ) → k < length js → alike r ls (get_or js k 0) i ≡ true → earliest r ls (drop k js) i ≡ get_or js k 0
-  earliest-here js k i h e = earliest-at js k i h ∙ ap (λ t. cond t (get_or js k 0) (earliest r ls (drop (k + 1) js) i)) e
-
-  pub earliest-later : (js : List ℕ) (k i : ℕ) → k < length js → alike r ls (get_or js k 0) i ≡ false → earliest r ls (drop k js) i ≡ earliest r ls (drop (k + 1) js) i
-  earliest-later js k i h e = earliest-at js k i h ∙ ap (λ t. cond t (get_or js k 0) (earliest r ls (drop (k + 1) js) i)) e
+  pub found-earliest : (js : List ℕ) (i x : ℕ) (o : Option ℕ) → x ≡ unwrap_or o i → option_map (λ y. y) o ≡ find (λ j. alike r ls j i) js → x ≡ earliest r ls js i
+  found-earliest js i x o e f = e ∙ (ap (λ q. unwrap_or q i) (sym (map-same o) ∙ f) ∙ earliest-found js i)
 
   pub alike_self : (i : ℕ) → alike r ls i i ≡ true
   alike_self i = and_from (eqb (feature_record r i).tag (feature_record r i).tag) (equal_lists (kept_lookups r ls i) (kept_lookups r ls i)) (eq-eqb (feature_record r i).tag (feature_record r i).tag refl) (equal-refl (kept_lookups r ls i))

@@ -1,7 +1,16 @@
 -- Facts on tests over lists.
-use Rattle.std.proofs.Common.{◌≡◌, ℕ, zero, suc, ◌<◌, Bool, true, false, ◌&&◌, eqb, List, [], ◌∷◌, map, length, get_or, Some, None, Decides, Option, sym, refl, ap, ◌∙◌, ⊎_elim, arith}
-use Rattle.std.specs.List.{slice_get}
-use Rattle.std.proofs.lemmas.Bool.{both_ways, eqb-true, eq-eqb, or_cases, or_left, or_right, or_from, and_left, and_right}
+use Rattle.std.proofs.Common.{◌≡◌, ℕ, zero, suc, ◌+◌, ◌<◌, Bool, true, false, ◌||◌, eqb, List, [], ◌∷◌, map, length, get_or, Some, None, Decides, Option, sym, refl, ap, ◌∙◌, ⊎_elim, arith}
+use Rattle.std.specs.declared.ops.Range.{Range}
+use Rattle.std.specs.Fn.{Called}
+use Rattle.std.specs.Iterator.{YieldsThen}
+use Rattle.std.specs.List.{FoldsTo, list_any, range_with_len, slice_get}
+use Rattle.std.specs.Option.{MatchOption, option_eq}
+use Rattle.std.proofs.lemmas.List.{get_or_default}
+use Rattle.std.proofs.iter.Yields.{nat_range_steps}
+use Rattle.std.proofs.lemmas.Iterator.{YieldsList-from_range}
+use Rattle.std.proofs.lemmas.Iterator.Search.{any_from_yields_List}
+use denote.Param.Members.{Mut}
+use Rattle.std.proofs.lemmas.Bool.{both_ways, eqb-true, eq-eqb, or_cases, or_left, or_right, and_left, and_right}
 use Rattle.keys.specs.Slots.{Held}
 use Rattle.source.specs.declared.parts.Standing.{Standing}
 use Rattle.source.specs.declared.parts.Standing.TheVariants.{Absent, Unreadable, There}
@@ -34,14 +43,34 @@ held-from (y ∷ ys) x e =
 pub among-decides : (xs : List ℕ) (x : ℕ) → Decides (among xs x) (Held (λ (a b : ℕ). a ≡ b) xs x)
 among-decides xs x = (held-from xs x, λ h. among-from xs x h.0 h.1.0 h.1.1)
 
-pub any_place : {X : Type 0} (p : X → Bool) (xs : List X) (k : ℕ) → passes p (slice_get xs k) ≡ true → any p xs ≡ true
-any_place p [] k e = absurd (both_ways false refl e)
-any_place p (x ∷ xs) zero e = or_left (p x) (any p xs) e
-any_place p (x ∷ xs) (suc k) e = or_right (p x) (any p xs) (any_place p xs k e)
+-- `any` over the places of a list, where the closure tests the element at a place
+module _ {X : Type 0} (p : X → Bool) where
+  any-counted : (xs : List X) (q : ℕ → Bool) (a n : ℕ) → n ≡ length xs → ((k : ℕ) (d : X) → k < length xs → q (a + k) ≡ p (get_or xs k d)) → list_any q (range_with_len a n) ≡ any p xs
+  any-counted [] q a zero e h = refl
+  any-counted [] q a (suc n) e h = absurd (omega arith)
+  any-counted (x ∷ xs) q a zero e h = absurd (omega arith)
+  any-counted (x ∷ xs) q a (suc n) e h =
+      let first : a + 0 ≡ a = omega arith in
+      ap (λ b. b || list_any q (range_with_len (a + 1) n)) (sym (ap q first) ∙ h 0 x (omega arith))
+      ∙ ap (λ b. p x || b) (any-counted xs q (a + 1) n (omega arith) (λ k d l. let next : a + 1 + k ≡ a + suc k = omega arith in ap q next ∙ h (suc k) d (omega arith)))
 
-pub any_none : {X : Type 0} (p : X → Bool) (xs : List X) → ((k : ℕ) → k < length xs → passes p (slice_get xs k) ≡ false) → any p xs ≡ false
-any_none p [] e = refl
-any_none p (x ∷ xs) e = or_from (p x) (any p xs) (e 0 (omega arith)) (any_none p xs (λ k h. e (suc k) (omega arith)))
+  pub any_over : {F : Type 0} {g : Mut F (ℕ × Unit {0}) Bool} {s : Range ℕ} (xs : List X) (q : ℕ → Bool) (n : ℕ) (u : Range ℕ) (f : F) (r : Bool) → s ≡ record { start = 0; end = n } → n ≡ length xs → ((k : ℕ) (d : X) → k < length xs → q k ≡ p (get_or xs k d))
+      → (ys : List ℕ) × (o : Option ℕ) × (j : F) × YieldsThen nat_range_steps s ys o u × FoldsTo (λ h x i. Called g h (x, tt) false i) f ys j × MatchOption o (r ≡ false) (λ x. (r ≡ true) × ((h : F) × Called g j (x, tt) true h))
+      → ((x : ℕ) (b : Bool) (i : F) → Called g f (x, tt) b i → (i ≡ f) × (b ≡ q x)) → r ≡ any p xs
+  any_over xs q n u f r e size h ran told =
+      any_from_yields_List q u f r ran (YieldsList-from_range 0 n n e (omega arith)) told
+      ∙ any-counted xs q 0 n size (λ k d l. let here : 0 + k ≡ k = omega arith in ap q here ∙ h k d l)
+
+  -- the same, where places past the end have an element too
+  pub any_by : {F : Type 0} {g : Mut F (ℕ × Unit {0}) Bool} {s : Range ℕ} (xs : List X) (e : X) (n : ℕ) (u : Range ℕ) (f : F) (r : Bool) → s ≡ record { start = 0; end = n } → n ≡ length xs
+      → (ys : List ℕ) × (o : Option ℕ) × (j : F) × YieldsThen nat_range_steps s ys o u × FoldsTo (λ h x i. Called g h (x, tt) false i) f ys j × MatchOption o (r ≡ false) (λ x. (r ≡ true) × ((h : F) × Called g j (x, tt) true h))
+      → ((x : ℕ) (b : Bool) (i : F) → Called g f (x, tt) b i → (i ≡ f) × (b ≡ p (get_or xs x e))) → r ≡ any p xs
+  any_by xs e n u f r at size ran told = any_over xs (λ k. p (get_or xs k e)) n u f r at size (λ k d l. ap p (get_or_default xs k e d l)) ran told
+
+pub passes-at : {X : Type 0} (p : X → Bool) (xs : List X) (k : ℕ) (d : X) → k < length xs → passes p (slice_get xs k) ≡ p (get_or xs k d)
+passes-at p [] k d h = absurd (omega arith)
+passes-at p (x ∷ xs) zero d h = refl
+passes-at p (x ∷ xs) (suc k) d h = passes-at p xs k d (omega arith)
 
 -- how many lookups a feature has, as a source tells
 pub lookup-count : (s : Standing FeatureTable) → counted (mapped (λ t. length t.lookups) s) ≡ length (lookups_of s)
@@ -49,19 +78,13 @@ lookup-count Absent = refl
 lookup-count Unreadable = refl
 lookup-count (There t) = refl
 
-pub any_at : {X : Type 0} (p : X → Bool) (d : X) → p d ≡ false → (xs : List X) (k : ℕ) → p (get_or xs k d) ≡ true → any p xs ≡ true
-any_at p d n [] k e = absurd (both_ways (p d) n e)
-any_at p d n (x ∷ xs) zero e = or_left (p x) (any p xs) e
-any_at p d n (x ∷ xs) (suc k) e = or_right (p x) (any p xs) (any_at p d n xs k e)
-
-pub any-nowhere : {X : Type 0} (p : X → Bool) (d : X) (xs : List X) → ((k : ℕ) → k < length xs → p (get_or xs k d) ≡ false) → any p xs ≡ false
-any-nowhere p d [] e = refl
-any-nowhere p d (x ∷ xs) e = or_from (p x) (any p xs) (e 0 (omega arith)) (any-nowhere p d xs (λ k h. e (suc k) (omega arith)))
-
 pub unreadable-mapped : {X Y : Type 0} (f : X → Y) (s : Standing X) → is_unreadable (mapped f s) ≡ is_unreadable s
 unreadable-mapped f Absent = refl
 unreadable-mapped f Unreadable = refl
 unreadable-mapped f (There x) = refl
+
+pub unread-or : (a b : Bool) → a ≡ false → b ≡ (a || b)
+unread-or a b e = sym (ap (λ t. t || b) e)
 
 -- what a source tells of a substitution record, as a record
 pub index-found : (xs : List SubstitutionRecord) (k j : ℕ) → slice_get (map index_of xs) k ≡ Some j → (get_or xs k no_substitution).index ≡ j
@@ -74,14 +97,12 @@ index-none [] k e = refl
 index-none (x ∷ xs) zero e = absurd (none-some (sym e))
 index-none (x ∷ xs) (suc k) e = index-none xs k e
 
-pub named-yes : (ls : List ℕ) (i : ℕ) (s : SubstitutionRecord) (t : Bool) → s.index ≡ i → t ≡ any (among ls) (lookups_of s.alternate) → t ≡ names_alternate ls i s
-named-yes ls i s t h e = e ∙ sym (ap (λ b. b && any (among ls) (lookups_of s.alternate)) (eq-eqb s.index i h))
-
-pub named-no : (ls : List ℕ) (i j : ℕ) (s : SubstitutionRecord) → s.index ≡ j → eqb j i ≡ false → eqb j i ≡ names_alternate ls i s
-named-no ls i j s h e = e ∙ sym (and_left (eqb s.index i) (any (among ls) (lookups_of s.alternate)) (ap (λ n. eqb n i) h ∙ e))
-
-pub named_none : (ls : List ℕ) (i : ℕ) (s : SubstitutionRecord) → s ≡ no_substitution → false ≡ names_alternate ls i s
-named_none ls i s h = sym (and_right (eqb s.index i) (any (among ls) (lookups_of s.alternate)) (ap (λ x. any (among ls) (lookups_of x.alternate)) h))
+-- a record that names another feature, or is none
+pub other-feature : (ls : List ℕ) (i : ℕ) (xs : List SubstitutionRecord) (k : ℕ) (o : Option ℕ) (r : Bool) → o ≡ slice_get (map index_of xs) k → r ≡ option_eq eqb o (Some i) → r ≡ false → r ≡ names_alternate ls i (get_or xs k no_substitution)
+other-feature ls i xs k None r e h n =
+    n ∙ sym (and_right (eqb (get_or xs k no_substitution).index i) (any (among ls) (lookups_of (get_or xs k no_substitution).alternate)) (ap (λ x. any (among ls) (lookups_of x.alternate)) (index-none xs k (sym e))))
+other-feature ls i xs k (Some j) r e h n =
+    n ∙ sym (and_left (eqb (get_or xs k no_substitution).index i) (any (among ls) (lookups_of (get_or xs k no_substitution).alternate)) (ap (λ x. eqb x i) (index-found xs k j (sym e)) ∙ (sym h ∙ n)))
 
 -- what a source tells of tables that are there
 

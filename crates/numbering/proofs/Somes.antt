@@ -1,7 +1,8 @@
 -- Steps over a list in which some places are left out.
-use Rattle.std.proofs.Common.{◌≡◌, ℕ, zero, suc, ◌+◌, ◌≤◌, Bool, true, false, cond, ◌&&◌, eqb, List, [], ◌∷◌, map, length, get_or, drop, Some, None, filter, Option, refl, ap, ◌∙◌, add-one, arith}
+use Rattle.std.proofs.Common.{◌≡◌, ℕ, zero, suc, ◌+◌, ◌≤◌, Bool, true, false, cond, ◌&&◌, eqb, List, [], ◌∷◌, map, length, get_or, drop, Some, None, filter, Option, sym, refl, ap, ◌∙◌, add-one, arith}
 use Rattle.std.proofs.lemmas.List.{drop_all}
 use Rattle.std.proofs.lemmas.Bool.{eq-eqb, ne_eqb}
+use Rattle.std.specs.Bool.{then_some}
 use Rattle.std.specs.List.{slice_get}
 use Rattle.numbering.specs.Sets.{among, somes, equal_lists, place_by, if_among}
 
@@ -51,10 +52,20 @@ other-left xs ys e h = ap (λ l. equal_lists l ys) e ∙ ap (equal_lists []) h
 pub ruleset turns = (left_out, given, none_left, only-left, differ, agree, neither_left, other-left)
 
 -- a list under a function that leaves some out
-pub place_of : (f : ℕ → Option ℕ) (xs : List ℕ) (k : ℕ) → get_or (map f xs) k None ≡ place_by f (slice_get xs k)
+place_of : (f : ℕ → Option ℕ) (xs : List ℕ) (k : ℕ) → get_or (map f xs) k None ≡ place_by f (slice_get xs k)
 place_of f [] k = refl
 place_of f (x ∷ xs) zero = refl
 place_of f (x ∷ xs) (suc k) = place_of f xs k
+
+pub place-none : (f : ℕ → Option ℕ) (xs : List ℕ) (k : ℕ) → None ≡ slice_get xs k → None ≡ get_or (map f xs) k None
+place-none f xs k e = ap (place_by f) e ∙ sym (place_of f xs k)
+
+pub place-some : (f : ℕ → Option ℕ) (xs : List ℕ) (k x : ℕ) → Some x ≡ slice_get xs k → f x ≡ get_or (map f xs) k None
+place-some f xs k x e = ap (place_by f) e ∙ sym (place_of f xs k)
+
+pub kept_some : (ls : List ℕ) (x : ℕ) (b : Bool) (r : Option ℕ) → r ≡ then_some b x → b ≡ among ls x → r ≡ if_among ls x
+kept_some ls x true r e h = e ∙ ap (λ b. cond b (Some x) None) h
+kept_some ls x false r e h = e ∙ ap (λ b. cond b (Some x) None) h
 
 somes-kept : (ls : List ℕ) (x : ℕ) (rest : List (Option ℕ)) (b : Bool) → somes (cond b (Some x) None ∷ rest) ≡ cond b (x ∷ somes rest) (somes rest)
 somes-kept ls x rest true = refl

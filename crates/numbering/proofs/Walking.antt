@@ -1,6 +1,6 @@
 -- The walk over scripts and language systems, and a context that follows it.
-use Rattle.std.proofs.Common.{◌≡◌, ℕ, ◌+◌, ◌<◌, ◌≤◌, min, true, false, cond, ◌||◌, ltb, List, [], ◌∷◌, ◌++◌, length, get_or, take, drop, Ok, Err, Option, sym, refl, ap, ◌∙◌, subst, arith}
-use Rattle.std.proofs.lemmas.List.{length_push, length-set, length-take-le, take_more_set, at_drop_more}
+use Rattle.std.proofs.Common.{◌≡◌, ℕ, ◌+◌, ◌<◌, ◌≤◌, min, true, false, cond, ◌||◌, ltb, List, [], ◌∷◌, ◌++◌, length, get_or, drop, Ok, Err, Option, sym, refl, ap, ◌∙◌, subst, arith}
+use Rattle.std.proofs.lemmas.List.{length_push, at_drop_more}
 use Rattle.std.proofs.lemmas.Bool.{cond_both, cond-true, cond-false}
 use Rattle.keys.specs.declared.pairs.Pair.{Pair}
 use Rattle.source.specs.declared.parts.LangSys.{LangSys}
@@ -25,7 +25,6 @@ module _ {ms : List ℕ} where
     sum = ap (λ s. min (s + n) 65535) a.sum ∙ ap (λ k. min (w.sum + k) 65535) e;
     flags = a.flags;
     named = a.named;
-    slots = a.slots;
     filled = a.filled;
     pairs = a.pairs;
   }
@@ -36,20 +35,18 @@ module _ {ms : List ℕ} where
     sum = m.sum ∙ a.sum;
     flags = omega (arith, a.flags, m.flags);
     named = λ p h. m.named p h ∙ ap (λ b. among (names t) (get_or ms p 0) || b) (a.named p h);
-    slots = ap length m.pairs ∙ a.slots;
-    filled = omega (arith, m.filled, a.filled);
-    pairs = ap (λ n. take n c'.pairs) m.filled ∙ (ap (take c.pair_count) m.pairs ∙ a.pairs);
+    filled = omega (arith, ap length m.pairs, a.filled);
+    pairs = m.pairs ∙ a.pairs;
   }
 
-  pub agrees-pair : {c : PruneLangSysContext} {w : Walk} (p : Pair) → c.pair_count < 2048 → Agrees ms c w → Agrees ms (with_pair p c) (keep_pair p w)
+  pub agrees-pair : {c : PruneLangSysContext} {w : Walk} (p : Pair) → length c.pairs < 2048 → Agrees ms c w → Agrees ms (with_pair p c) (keep_pair p w)
   agrees-pair {c} {w} p h a = record {
     scripts = a.scripts;
     sum = a.sum;
     flags = a.flags;
     named = a.named;
-    slots = length-set c.pairs c.pair_count p ∙ a.slots;
-    filled = omega arith;
-    pairs = take_more_set c.pairs c.pair_count p (omega (arith, a.slots)) ∙ ap (λ l. l ++ (p ∷ [])) a.pairs;
+    filled = omega (arith, length_push c.pairs p);
+    pairs = ap (λ l. l ++ (p ∷ [])) a.pairs;
   }
 
   pub agrees-counted : {c : PruneLangSysContext} {w : Walk} → Agrees ms c w → Agrees ms (counted c) (count_script w)
@@ -58,14 +55,9 @@ module _ {ms : List ℕ} where
     sum = a.sum;
     flags = a.flags;
     named = a.named;
-    slots = a.slots;
     filled = a.filled;
     pairs = a.pairs;
   }
-
-  -- how many pairs are kept
-  pub pairs-kept : {c : PruneLangSysContext} {w : Walk} → Agrees ms c w → c.pair_count ≡ length w.pairs
-  pairs-kept {c} a = sym (length-take-le c.pair_count c.pairs (omega (arith, a.filled, a.slots))) ∙ ap length a.pairs
 
 -- a language system that is collected
 
@@ -87,12 +79,12 @@ module _ {ms : List ℕ} (m : ℕ → Option ℕ) (d : Standing LangSysTable) (p
       ∙ (cond-true (succeeds (visit table w)) _ _ success
       ∙ ap (λ b. record { goes_on = true; left = compared b p table (visit table w) }) (sym (ap (λ x. like_default m x d) (system-there s l e).1) ∙ unlike))
 
-  pub record-kept : c'.pair_count < 2048 → Goes ms (record_step m d p s w) (with_pair p c') (Ok true)
+  pub record-kept : length c'.pairs < 2048 → Goes ms (record_step m d p s w) (with_pair p c') (Ok true)
   record-kept h = subst (λ x. Goes ms x (with_pair p c') (Ok true)) (sym step) (refl, agrees-pair p h done)
 
-  pub record-full : (c'' : PruneLangSysContext) → 2048 ≤ c'.pair_count → Goes ms (record_step m d p s w) c'' (Err TooManyPairs)
+  pub record-full : (c'' : PruneLangSysContext) → 2048 ≤ length c'.pairs → Goes ms (record_step m d p s w) c'' (Err TooManyPairs)
   record-full c'' h =
-      subst (λ x. Goes ms x c'' (Err TooManyPairs)) (sym step) (refl, omega (arith, pairs-kept done, length_push w.pairs p))
+      subst (λ x. Goes ms x c'' (Err TooManyPairs)) (sym step) (refl, omega (arith, ap length done.pairs, length_push w.pairs p))
 
 pub ruleset collected_records = (record-kept, record-full)
 

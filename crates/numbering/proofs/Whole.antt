@@ -1,17 +1,21 @@
 -- The stages together.
-use Rattle.std.proofs.Common.{◌≡◌, ℕ, ◌-◌, ◌≤◌, nat_eq, List, map, length, take, sym, ap, ◌∙◌, subst, arith}
+use Rattle.std.proofs.Common.{◌≡◌, ℕ, ◌<◌, ◌≤◌, nat_eq, List, map, length, take, sym, ap, ◌∙◌, subst, arith}
 use Rattle.std.proofs.lemmas.List.{length-map, length-take, take-take}
 use Rattle.std.proofs.lemmas.Bool.{and_parts}
+use Rattle.keys.specs.declared.tags.Tag.{Tag}
 use Rattle.source.specs.Reading.{Reading}
+use Rattle.source.specs.declared.refusals.Refusal.{Refusal}
+use Rattle.source.specs.declared.refusals.Refusal.TheVariants.{TooManyPairs}
 use Rattle.numbering.specs.declared.systems.PruneLangSysContext.{PruneLangSysContext}
 use Rattle.source.specs.Standings.{listed}
 use Rattle.numbering.specs.Sets.{Ascends, among, lookup_beside}
 use Rattle.numbering.specs.Stages.{survivors, matched, earliest_of}
-use Rattle.numbering.specs.Systems.{Walk, no_walk, walk_scripts, is_named, retained}
+use Rattle.numbering.specs.Systems.{Walk, no_walk, walk_scripts, code_of, is_named, retained}
 use Rattle.numbering.specs.Context.{Paired, Agrees, chosen}
 use Rattle.numbering.specs.Numbers.{Settled, number, owners}
-use Rattle.numbering.specs.Numbering.{held, held_pairs, the_matched, first_alike, the_walk, the_retained, Laws, Numbers}
+use Rattle.numbering.specs.Numbering.{held, held_pairs, the_matched, first_alike, the_walk, the_retained, Laws, Numbers, Kept, Turned}
 use Rattle.numbering.specs.declared.number.Numbering.{Numbering}
+use Rattle.numbering.specs.declared.number.Unnumbered.TheVariants.{Refused}
 use Rattle.numbering.proofs.Earlier.{earliest-settled}
 use Rattle.numbering.proofs.Lawful.{laws as laws-of}
 use Rattle.numbering.proofs.Retaining.{survivors-ascend, matched-ascends, few-survivors, few-matched, few-kept, kept-ascends, among-kept, chosen-kept, chosen-map}
@@ -21,30 +25,6 @@ pub chosen-retained : (ms : List ℕ) (c : PruneLangSysContext) (w : Walk) → A
 chosen-retained ms c w a = chosen-kept c.named (is_named w.collected) ms a.flags a.named
 
 module _ (r : Reading) (ls fs : List ℕ) where
-  -- the survivors A, and the earliest matches B
-  module _ (A B : List ℕ) (k j : ℕ) (survived : take k A ≡ survivors r ls fs) where
-    cut : take (k - 0) A ≡ survivors r ls fs
-    cut = let whole : k - 0 ≡ k = omega arith in ap (λ n. take n A) whole ∙ survived
-
-    pub whole-matched : j ≤ length (take (k - 0) A) → take j (take (k - 0) A) ≡ matched r (take (k - 0) A) → take (j - 0) A ≡ the_matched r ls fs
-    whole-matched h e =
-        let whole : j - 0 ≡ j = omega arith in
-        ap (λ n. take n A) whole ∙ (sym (take-take j (k - 0) A (omega (arith, h, length-take (k - 0) A))) ∙ (e ∙ ap (matched r) cut))
-
-    pub whole-earliest : take j B ≡ earliest_of r ls (take (k - 0) A) → take j B ≡ earliest_of r ls (survivors r ls fs)
-    whole-earliest e = e ∙ ap (earliest_of r ls) cut
-
-  -- both as they are lent
-  pub settle : (A B : List ℕ) (j : ℕ) → take (j - 0) A ≡ the_matched r ls fs → take j B ≡ earliest_of r ls (survivors r ls fs) → (P : List ℕ → List ℕ → Type 0) → P (take (j - 0) A) (take (j - 0) B) → P (the_matched r ls fs) (earliest_of r ls (survivors r ls fs))
-  settle A B j m e P x =
-      let whole : j - 0 ≡ j = omega arith in
-      subst (P (the_matched r ls fs)) (ap (λ n. take n B) whole ∙ e) (subst (λ ms. P ms (take (j - 0) B)) m x)
-
-  pub lend : (A B : List ℕ) (j : ℕ) → take (j - 0) A ≡ the_matched r ls fs → take j B ≡ earliest_of r ls (survivors r ls fs) → (P : List ℕ → List ℕ → Type 0) → P (the_matched r ls fs) (earliest_of r ls (survivors r ls fs)) → P (take (j - 0) A) (take (j - 0) B)
-  lend A B j m e P x =
-      let whole : j - 0 ≡ j = omega arith in
-      subst (λ ms. P ms (take (j - 0) B)) (sym m) (subst (P (the_matched r ls fs)) (sym (ap (λ n. take n B) whole ∙ e)) x)
-
   module _ (up : Ascends fs) (few : length fs ≤ 512) where
     matched-up : Ascends (the_matched r ls fs)
     matched-up = matched-ascends r (survivors r ls fs) (survivors-ascend r ls fs up)
@@ -89,22 +69,35 @@ module _ (r : Reading) (ls fs : List ℕ) where
 
 -- From what the first stages promise: the survivors A, their earliest matches B, and a fresh context c.
 module _ (r : Reading) (ls fs A B : List ℕ) (k j : ℕ) (up : Ascends fs) (few : length fs ≤ 512) (survived : take k A ≡ survivors r ls fs)
-    (within : j ≤ length (take (k - 0) A)) (front : take j (take (k - 0) A) ≡ matched r (take (k - 0) A))
-    (earliest : take j B ≡ earliest_of r ls (take (k - 0) A)) where
-  settled-matched : take (j - 0) A ≡ the_matched r ls fs
-  settled-matched = whole-matched r ls fs A B k j survived within front
+    (within : j ≤ length (take k A)) (front : take j (take k A) ≡ matched r (take k A))
+    (earliest : take j B ≡ earliest_of r ls (take k A)) where
+  settled-matched : take j A ≡ the_matched r ls fs
+  settled-matched = sym (take-take j k A (omega (arith, within, length-take k A))) ∙ (front ∙ ap (matched r) survived)
 
   pub settled-earliest : take j B ≡ earliest_of r ls (survivors r ls fs)
-  settled-earliest = whole-earliest r ls fs A B k j survived earliest
+  settled-earliest = earliest ∙ ap (earliest_of r ls) survived
 
-  pub lent_pairs : Paired (take (j - 0) A) (take (j - 0) B)
-  lent_pairs = lend r ls fs A B j settled-matched settled-earliest Paired (paired r ls fs up few)
+  pub lent_pairs : Paired (take j A) (take j B)
+  lent_pairs = subst (λ ms. Paired ms (take j B)) (sym settled-matched) (subst (Paired (the_matched r ls fs)) (sym settled-earliest) (paired r ls fs up few))
 
   module _ (ts : List ℕ) (c : PruneLangSysContext) (fresh : (ms : List ℕ) → length ms ≤ 512 → Agrees ms c no_walk) where
     -- the walk over what is lent is the whole walk
     pub whole_walk : (P : List ℕ → Walk → Type 0)
-        → ((w : Walk) → Agrees (take (j - 0) A) c w → P (take (j - 0) A) (walk_scripts (lookup_beside nat_eq (take (j - 0) A) (take (j - 0) B)) ts 0 (listed r.scripts) w))
+        → ((w : Walk) → Agrees (take j A) c w → P (take j A) (walk_scripts (lookup_beside nat_eq (take j A) (take j B)) ts 0 (listed r.scripts) w))
         → P (the_matched r ls fs) (the_walk r ls fs ts)
     whole_walk P x =
-        settle r ls fs A B j settled-matched settled-earliest (λ ms es. P ms (walk_scripts (lookup_beside nat_eq ms es) ts 0 (listed r.scripts) no_walk))
-        (x no_walk (lend r ls fs A B j settled-matched settled-earliest (λ ms _. Agrees ms c no_walk) (fresh (the_matched r ls fs) (matched-few r ls fs up few))))
+        subst (λ es. P (the_matched r ls fs) (walk_scripts (lookup_beside nat_eq (the_matched r ls fs) es) ts 0 (listed r.scripts) no_walk)) settled-earliest
+        (subst (λ ms. P ms (walk_scripts (lookup_beside nat_eq ms (take j B)) ts 0 (listed r.scripts) no_walk)) settled-matched
+        (x no_walk (subst (λ ms. Agrees ms c no_walk) (sym settled-matched) (fresh (the_matched r ls fs) (matched-few r ls fs up few)))))
+
+-- what is said of the sets that were tested is said of the lists that they were made of
+module _ (r : Reading) {ls ls' fs fs' : List ℕ} {ts ts' : List Tag} (le : ls ≡ ls') (fe : fs ≡ fs') (te : ts ≡ ts') where
+  of-lists : (P : List ℕ → List ℕ → List Tag → Type 0) → P ls fs ts → P ls' fs' ts'
+  of-lists P x = subst (P ls' fs') te (subst (λ f. P ls' f ts) fe (subst (λ l. P l fs ts) le x))
+
+  pub is-numbered : (n : Numbering) → Kept ls fs ts → length (held_pairs n.pairs) ≤ 2048 → Numbers r ls fs (map code_of ts) n → Kept ls' fs' ts' × (length (the_walk r ls' fs' (map code_of ts')).pairs ≤ 2048) × Numbers r ls' fs' (map code_of ts') n
+  is-numbered n k few m =
+      of-lists (λ l f t. Kept l f t × (length (the_walk r l f (map code_of t)).pairs ≤ 2048) × Numbers r l f (map code_of t) n) (k, omega (arith, few, ap length m.paired), m)
+
+  pub is-refused : (f : Refusal) → Kept ls fs ts → (f ≡ TooManyPairs) × (2048 < length (the_walk r ls fs (map code_of ts)).pairs) → Turned r ls' fs' ts' (Refused f)
+  is-refused f k m = of-lists (λ l g t. Turned r l g t (Refused f)) (k, m.0, m.1)

@@ -1,6 +1,6 @@
 -- The whole numbering of a reading r under kept lookups ls, features fs and script tags ts.
 --   Kept            the sets ascend, and none is over its size
---   held            the filled part of a table
+--   held            the filled part of a table, which is its value
 --   the_matched     the survivors that have an earliest match
 --   first_alike     the earliest match of an index
 --   match_of        the same, if the index has one
@@ -9,8 +9,10 @@
 --   Laws            what holds of every numbering
 --   Numbers         a numbering is the defined one, and the laws hold of it
 --   Answered        a numbering, or the refusal where more than 2,048 pairs would be kept
+--   TurnedAway      what a refusal of sets that are none becomes
+--   RefusedWith     what a refusal of a call becomes
 --   NumberedOrNot   the same for every input: sets that are none are turned away
-use Rattle.std.specs.Prelude.{◌≡◌, ℕ, ◌<◌, ◌≤◌, true, ◌&&◌, List, map, length, take, Option, Result, MatchResult, nat_eq}
+use Rattle.std.specs.Prelude.{◌≡◌, ℕ, ◌<◌, ◌≤◌, true, ◌&&◌, List, map, length, Option, Result, MatchResult, nat_eq}
 use Rattle.keys.specs.Slots.{Ascending}
 use Rattle.keys.specs.Pairs.{PairBefore}
 use Rattle.keys.specs.Tags.{TagBefore}
@@ -19,9 +21,8 @@ use Rattle.keys.specs.declared.tags.Tag.{Tag}
 use Rattle.source.specs.Reading.{Reading}
 use Rattle.source.specs.declared.refusals.Refusal.{Refusal}
 use Rattle.source.specs.declared.refusals.Refusal.TheVariants.{TooManyPairs}
-use Rattle.numbering.specs.declared.indices.Indices.{Indices}
-use Rattle.numbering.specs.declared.pairs.Pairs.{Pairs}
 use Rattle.numbering.specs.declared.number.Numbering.{Numbering}
+use Rattle.numbering.specs.declared.number.NotKeptSets.{NotKeptSets as NoKeptSets}
 use Rattle.numbering.specs.declared.number.Unnumbered.{Unnumbered}
 use Rattle.numbering.specs.declared.number.Unnumbered.TheVariants.{NotKeptSets, Refused}
 use Rattle.numbering.specs.Sets.{Ascends, among, lookup_beside}
@@ -37,11 +38,11 @@ pub record Kept (ls fs : List ℕ) (ts : List Tag) : Type 0 where
   pub scripts : Ascending TagBefore ts
   pub few_scripts : length ts ≤ 64
 
-abbrev pub held : Indices → List ℕ
-held x = take x.len x.items
+abbrev pub held : List ℕ → List ℕ
+held x = x
 
-abbrev pub held_pairs : Pairs → List Pair
-held_pairs x = take x.len x.items
+abbrev pub held_pairs : List Pair → List Pair
+held_pairs x = x
 
 abbrev pub the_matched : Reading → List ℕ → List ℕ → List ℕ
 the_matched r ls fs = matched r (survivors r ls fs)
@@ -76,6 +77,12 @@ pub record Numbers (r : Reading) (ls fs ts : List ℕ) (n : Numbering) : Type 0 
 
 abbrev pub Answered : Reading → List ℕ → List ℕ → List ℕ → Result Numbering Refusal → Type 0
 Answered r ls fs ts x = MatchResult x (Numbers r ls fs ts) (λ f. (f ≡ TooManyPairs) × (2048 < length (the_walk r ls fs ts).pairs))
+
+abbrev pub TurnedAway : NoKeptSets → Unnumbered → Type 0
+TurnedAway x u = u ≡ NotKeptSets
+
+abbrev pub RefusedWith : Refusal → Unnumbered → Type 0
+RefusedWith f u = u ≡ Refused f
 
 -- what each case of the refusal says
 abbrev pub Turned : Reading → List ℕ → List ℕ → List Tag → Unnumbered → Type 0

@@ -14,6 +14,7 @@ use Rattle.source.specs.declared.parts.Standing.{Standing}
 use Rattle.source.specs.declared.parts.Standing.TheVariants.{Absent, Unreadable, There}
 use Rattle.source.specs.declared.parts.FeaturePlace.{FeaturePlace}
 use Rattle.source.specs.declared.parts.FeaturePlace.TheVariants.{Listed}
+use Rattle.source.specs.Standings.{unreadable}
 use Rattle.source.specs.Reading.{SubstitutionRecord, VariationRecord, Reading}
 use Rattle.source.specs.Questions.{feature_record, feature, lookups_of, params_of, variation_records, substitution_records}
 use Rattle.numbering.specs.Sets.{among, any, equal_lists}
@@ -27,9 +28,7 @@ kept_lookups r ls i = filter (among ls) (lookups_of (feature r (Listed i)))
 -- alternates
 
 abbrev pub is_unreadable : {X : Type 0} → Standing X → Bool
-is_unreadable Absent = false
-is_unreadable Unreadable = true
-is_unreadable (There x) = false
+is_unreadable s = unreadable s
 
 abbrev pub unread_substitution : VariationRecord → Bool
 unread_substitution v = is_unreadable v.substitution || any (λ s. is_unreadable s.alternate) (substitution_records v.substitution)

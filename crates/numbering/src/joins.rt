@@ -2,9 +2,9 @@
 ghost use Rattle.std.specs.Option.{MatchOption};
 ghost use Rattle.numbering.specs.Joins.{Joinable, Joined};
 
-use crate::matches::find_duplicate_features;
-use crate::sets::is_ascending;
-use crate::survivors::prune_features;
+use crate::duplicates::All;
+use crate::sets::IndexSet;
+use crate::subset::Subset;
 use source::Source;
 
 // How many features survive, and how many of those have an earliest match.
@@ -25,14 +25,13 @@ pub fn join_features<S: Source>(
 ) -> Option<Joins>
     ensures { MatchOption result (Joinable lookups.now features.now survivors.old earliest.old → ⊥) (Joined (S.reading source.now) lookups.now features.now survivors.new earliest.new) }
 {
-    if !is_ascending(lookups) {
-        return None;
-    }
     if survivors.len() < features.len() || earliest.len() < features.len() {
         return None;
     }
-    let count = prune_features(source, lookups, features, survivors);
-    let matched = find_duplicate_features(source, lookups, &survivors[0..count], earliest);
+    let lookups = IndexSet::new(lookups)?;
+    let subset = Subset { source, lookups };
+    let count = subset.prune_features(features, survivors);
+    let matched = subset.find_duplicates(&mut All, &survivors[..count], earliest);
     Some(Joins {
         survivors: count,
         matched,

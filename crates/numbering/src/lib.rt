@@ -3,21 +3,21 @@
 
 mod alternates;
 mod chains;
+mod duplicates;
 mod equals;
-mod indices;
+mod filled;
 mod joins;
 mod matches;
 mod number;
-mod pairs;
 mod remap;
-mod scripts;
 mod sequence;
 mod sets;
+mod subset;
 mod survivors;
 mod systems;
+mod walk;
 
-pub use indices::Indices;
+pub use filled::{Filled, Indices, Pairs};
 pub use joins::{Joins, join_features};
-pub use number::{Numbering, Unnumbered, number_features};
-pub use pairs::Pairs;
+pub use number::{KeptSets, NotKeptSets, Numbering, Unnumbered, number_features, number_kept};
 pub use remap::place_in;

@@ -1,15 +1,16 @@
 // The numbering: from kept sets to the retained features and their numbers.
-ghost use Rattle.std.specs.Prelude.{map};
+ghost use Rattle.std.specs.Prelude.{◌≡◌, ◌≤◌, map, length, IfOk, MatchResult};
 ghost use Rattle.numbering.specs.Systems.{code_of};
-ghost use Rattle.numbering.specs.Numbering.{Kept, Answered, NumberedOrNot};
+ghost use Rattle.numbering.specs.Numbering.{held_pairs, Kept, Answered, TurnedAway, RefusedWith, NumberedOrNot};
 
-use crate::indices::Indices;
-use crate::matches::find_duplicates_in_buckets;
-use crate::pairs::Pairs;
+use crate::chains::Chains;
+use crate::equals::Matches;
+use crate::filled::{Filled, Indices, Pairs};
 use crate::remap::remap_feature_indices;
-use crate::sets::are_kept_sets;
-use crate::survivors::prune_features;
+use crate::sets::{IndexSet, are_kept_sets};
+use crate::subset::Subset;
 use crate::systems::PruneLangSysContext;
+use crate::walk::ScriptWalk;
 use keys::Tag;
 use source::{Refusal, Source};
 
@@ -26,6 +27,39 @@ pub struct Numbering {
     pub own: usize,
 }
 
+// Kept sets: lookups (at most 1,024), features (at most 512) and script tags (at most 64), which ascend.
+#[derive(Clone, Copy)]
+pub struct KeptSets<'a> {
+    pub lookups: &'a [u16],
+    pub features: &'a [u16],
+    pub scripts: &'a [Tag],
+    ghost kept: { Kept lookups.now features.now scripts.now },
+}
+
+// Sets that do not ascend or are too large.
+#[derive(Clone, Copy, PartialEq, Eq, Debug)]
+pub struct NotKeptSets;
+
+impl<'a> KeptSets<'a> {
+    // Sets that are tested.
+    pub fn new(
+        lookups: &'a [u16],
+        features: &'a [u16],
+        scripts: &'a [Tag],
+    ) -> Result<KeptSets<'a>, NotKeptSets>
+        ensures { MatchResult result (λ s. (s.lookups.now ≡ lookups.now) × (s.features.now ≡ features.now) × (s.scripts.now ≡ scripts.now)) (λ _. Kept lookups.now features.now scripts.now → ⊥) }
+    {
+        if !are_kept_sets(lookups, features, scripts) {
+            return Err(NotKeptSets);
+        }
+        Ok(KeptSets {
+            lookups,
+            features,
+            scripts,
+        })
+    }
+}
+
 // Why there is no numbering: the kept sets do not ascend or are too large, or the call is refused.
 #[derive(Clone, Copy, PartialEq, Eq, Debug)]
 pub enum Unnumbered {
@@ -33,65 +67,75 @@ pub enum Unnumbered {
     Refused(Refusal),
 }
 
-// The numbering of sets that ascend and are not too large.
-fn number_sets<S: Source>(
-    source: &S,
-    lookups: &[u16],
-    features: &[u16],
-    scripts: &[Tag],
-) -> Result<Numbering, Refusal>
-    requires { Kept lookups.now features.now scripts.now }
-    ensures { Answered (S.reading source.now) lookups.now features.now (map code_of scripts.now) result }
+impl From<NotKeptSets> for Unnumbered {
+    ghost from_gives = { TurnedAway };
+
+    fn from(_: NotKeptSets) -> Unnumbered {
+        Unnumbered::NotKeptSets
+    }
+}
+
+impl From<Refusal> for Unnumbered {
+    ghost from_gives = { RefusedWith };
+
+    fn from(refusal: Refusal) -> Unnumbered {
+        Unnumbered::Refused(refusal)
+    }
+}
+
+// Numbers the features that a site keeps.
+pub fn number_kept<S: Source>(source: &S, sets: &KeptSets<'_>) -> Result<Numbering, Refusal>
+    ensures answered { Answered (S.reading source.now) sets.now.lookups.now sets.now.features.now (map code_of sets.now.scripts.now) result }
+    ensures few { IfOk result (λ n. length (held_pairs n.pairs) ≤ 2048) }
 {
     let mut survivors = [0; 512];
     let mut earliest = [0; 512];
-    let survived = prune_features(source, lookups, features, &mut survivors);
-    let matched = find_duplicates_in_buckets(
+    let subset = Subset {
         source,
-        lookups,
-        &survivors[0..survived],
-        &mut earliest,
-    );
+        lookups: IndexSet {
+            items: sets.lookups,
+        },
+    };
+    let survived = subset.prune_features(sets.features, &mut survivors);
+    let matched = subset.find_duplicates(&mut Chains::new(), &survivors[..survived], &mut earliest);
+    let walk = ScriptWalk {
+        source,
+        matches: Matches {
+            matched: &survivors[..matched],
+            earliest: &earliest[..matched],
+        },
+        tags: sets.scripts,
+    };
     let mut context = PruneLangSysContext::new();
     let mut retained = [0; 512];
     let mut targets = [0; 512];
     let mut numbers = [0; 512];
-    let (paired, count) = context.prune_langsys(
-        source,
-        scripts,
-        &survivors[0..matched],
-        &earliest[0..matched],
-        &mut retained,
-    )?;
-    context.choose(&earliest[0..matched], &mut targets);
-    let own = remap_feature_indices(&retained[0..count], &targets, &mut numbers);
+    let count = context.prune_langsys(&walk, &mut retained)?;
+    context.choose(&earliest[..matched], &mut targets);
+    let own = remap_feature_indices(&retained[..count], &targets, &mut numbers);
     Ok(Numbering {
-        survivors: Indices {
+        survivors: Filled {
             items: survivors,
             len: survived,
         },
-        earliest: Indices {
+        earliest: Filled {
             items: earliest,
             len: matched,
         },
-        retained: Indices {
+        retained: Filled {
             items: retained,
             len: count,
         },
-        numbers: Indices {
+        numbers: Filled {
             items: numbers,
             len: count,
         },
-        pairs: Pairs {
-            items: context.pairs,
-            len: paired,
-        },
+        pairs: context.pairs,
         own,
     })
 }
 
-// Numbers the features that a site keeps. The kept lookups (at most 1,024), features (at most 512) and script tags (at
-// most 64) ascend.
+// Numbers the features that a site keeps, or turns sets away that are none.
 pub fn number_features<S: Source>(
     source: &S,
     lookups: &[u16],
@@ -100,11 +144,6 @@ pub fn number_features<S: Source>(
 ) -> Result<Numbering, Unnumbered>
     ensures { NumberedOrNot (S.reading source.now) lookups.now features.now scripts.now result }
 {
-    if !are_kept_sets(lookups, features, scripts) {
-        return Err(Unnumbered::NotKeptSets);
-    }
-    match number_sets(source, lookups, features, scripts) {
-        Ok(numbering) => Ok(numbering),
-        Err(refusal) => Err(Unnumbered::Refused(refusal)),
-    }
+    let sets = KeptSets::new(lookups, features, scripts)?;
+    Ok(number_kept(source, &sets)?)
 }

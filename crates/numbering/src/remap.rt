@@ -9,10 +9,7 @@ use keys::find;
 pub fn place_in(set: &[u16], x: u16) -> Option<usize>
     ensures { Ascends set.now → MatchOption result (among set.now x ≡ false) (λ q. (q < length set.now) × (slice_index set.now q ≡ x)) }
 {
-    match find(set, x) {
-        Ok(q) => Some(q),
-        Err(_) => None,
-    }
+    find(set, x).ok()
 }
 
 // Gives each retained index its number, lowest first: that of its earliest match where it is retained and lower, else

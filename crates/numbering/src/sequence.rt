@@ -10,21 +10,17 @@ pub(crate) const MIX_MODULUS: u32 = 65521;
 pub(crate) trait Sequence {
     ghost places: { Self → List (Option ℕ) };
 
-    ghost ready: { Self → Type 0 };
-
     fn count(&self) -> u16
         ensures { result ≡ length (places self.now) };
 
     // The number at a place, unless it is left out.
     fn number_at(&self, k: u16) -> Option<u16>
-        requires { ready self.now }
         ensures { result ≡ slice_index_or (places self.now) k None };
 }
 
 // The next number from a place on, with the place after it.
 #[tactic(auto, using(crate::proofs::Somes::turns))]
 fn next_from<Q: Sequence>(q: &Q, from: u16) -> Option<(u16, u16)>
-    requires { Q.ready q.now }
     ensures { MatchOption result (somes (drop from (Q.places q.now)) ≡ []) (λ p. somes (drop from (Q.places q.now)) ≡ p.0 ∷ somes (drop p.1 (Q.places q.now))) }
 {
     let end = q.count();
@@ -39,8 +35,6 @@ fn next_from<Q: Sequence>(q: &Q, from: u16) -> Option<(u16, u16)>
 // Whether two sequences give the same numbers in the same order.
 #[tactic(auto, using(crate::proofs::Somes::turns))]
 pub(crate) fn same_numbers<Q: Sequence>(a: &Q, b: &Q) -> bool
-    requires first { Q.ready a.now }
-    requires second { Q.ready b.now }
     ensures { result ≡ equal_lists (somes (Q.places a.now)) (somes (Q.places b.now)) }
 {
     let mut j = 0;
@@ -55,17 +49,13 @@ pub(crate) fn same_numbers<Q: Sequence>(a: &Q, b: &Q) -> bool
             j = next;
         }
     }
-    match next_from(b, j) {
-        Some(_) => false,
-        None => true,
-    }
+    next_from(b, j).is_none()
 }
 
 // The numbers of a sequence, mixed into one.
 #[tactic(auto, using(crate::proofs::Somes::turns))]
 pub(crate) fn mix_numbers<Q: Sequence>(q: &Q, start: u32) -> u32
-    requires ready { Q.ready q.now }
-    requires below { start < 65521 }
+    requires { start < 65521 }
     ensures { result ≡ mixed start (somes (Q.places q.now)) }
 {
     let mut h = start;

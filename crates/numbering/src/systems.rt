@@ -1,19 +1,18 @@
 // The language systems that are collected, and the pairs that are kept.
-ghost use Rattle.std.specs.Prelude.{◌≡◌, ℕ, ◌<◌, ◌≤◌, List, map, length, take, if◌then◌else◌, MatchResult, nat_eq, nat_lt};
-ghost use Rattle.keys.specs.Slots.{Ascending};
-ghost use Rattle.keys.specs.Tags.{TagBefore};
+ghost use Rattle.std.specs.Prelude.{◌≡◌, ℕ, ◌<◌, ◌≤◌, List, map, length, take, if◌then◌else◌, IfOk, MatchResult, nat_eq, nat_lt};
 ghost use Rattle.source.specs.declared.parts.Standing.TheVariants.{There};
 ghost use Rattle.source.specs.declared.parts.LangSysPlace.TheVariants.{Default, Record};
 ghost use Rattle.source.specs.declared.refusals.Refusal.TheVariants.{TooManyPairs};
 ghost use Rattle.source.specs.Questions.{script, script_record, lang_sys_of, lang_sys_records, lang_sys_head, indices_of};
 ghost use Rattle.source.specs.Standings.{mapped, listed};
-ghost use Rattle.numbering.specs.Sets.{Ascends, among, lookup_beside};
+ghost use Rattle.numbering.specs.Sets.{among, lookup_beside};
 ghost use Rattle.numbering.specs.Systems.{Walk, no_walk, names_of, code_of, walk_records, walk_scripts, counted_script, script_step, record_step, visit_default};
-ghost use Rattle.numbering.specs.Context.{Paired, Agrees, Marked, counted, visited, with_pair, Walks, Goes, Pruned, chosen};
+ghost use Rattle.numbering.specs.Context.{Agrees, Marked, counted, visited, with_pair, Walks, Goes, Pruned, chosen};
 
-use crate::equals::is_like_default;
-use crate::scripts::{is_empty_script, is_kept_script};
-use keys::{Pair, Tag, find};
+use crate::equals::Matches;
+use crate::filled::{Filled, Pairs};
+use crate::walk::ScriptWalk;
+use keys::Pair;
 use source::{LangSys, LangSysPlace, Refusal, Source, Standing};
 
 const MAX_SCRIPTS: u16 = 500;
@@ -26,8 +25,7 @@ pub(crate) struct PruneLangSysContext {
     pub(crate) script_count: u16,
     pub(crate) langsys_feature_count: u16,
     pub(crate) named: [bool; 512],
-    pub(crate) pairs: [Pair; 2048],
-    pub(crate) pair_count: usize,
+    pub(crate) pairs: Pairs,
 }
 
 impl PruneLangSysContext {
@@ -42,8 +40,7 @@ impl PruneLangSysContext {
             script_count: 0,
             langsys_feature_count: 0,
             named: [false; 512],
-            pairs: [pair; 2048],
-            pair_count: 0,
+            pairs: Filled::new(pair),
         }
     }
 
@@ -69,33 +66,27 @@ impl PruneLangSysContext {
     }
 
     // Retains an index that has an earliest match.
-    fn retain(&mut self, matched: &[u16], index: u16)
-        requires ascends { Ascends matched.now }
-        requires few { length matched.now ≤ 512 }
-        ensures { Marked matched.now (nat_eq index) self.old self.new }
+    fn retain(&mut self, matches: &Matches<'_>, index: u16)
+        ensures { Marked matches.now.matched.now (nat_eq index) self.old self.new }
     {
-        match find(matched, index) {
-            Ok(p) => self.named[p] = true,
-            Err(_) => {}
+        if let Some(p) = matches.place(index) {
+            self.named[p] = true;
         }
     }
 
     // Retains the listed indices of a language system.
     fn retain_listed<S: Source>(
         &mut self,
-        source: &S,
-        matched: &[u16],
+        walk: &ScriptWalk<'_, '_, '_, S>,
         at: LangSysPlace,
         count: u16,
     )
-        requires ascends { Ascends matched.now }
-        requires few { length matched.now ≤ 512 }
-        requires count { count ≡ length (indices_of (lang_sys_of (S.reading source.now) at)) }
-        ensures { Marked matched.now (among (indices_of (lang_sys_of (S.reading source.now) at))) self.old self.new }
+        requires { count ≡ length (indices_of (lang_sys_of (S.reading walk.now.source.now) at)) }
+        ensures { Marked walk.now.matches.matched.now (among (indices_of (lang_sys_of (S.reading walk.now.source.now) at))) self.old self.new }
     {
         for k in 0..count {
-            if let Some(index) = source.feature_index(at, k) {
-                self.retain(matched, index);
+            if let Some(index) = walk.source.feature_index(at, k) {
+                self.retain(&walk.matches, index);
             }
         }
     }
@@ -103,31 +94,27 @@ impl PruneLangSysContext {
     // Retains the required and the listed indices of a language system.
     fn collect_langsys_features<S: Source>(
         &mut self,
-        source: &S,
-        matched: &[u16],
+        walk: &ScriptWalk<'_, '_, '_, S>,
         at: LangSysPlace,
         langsys: LangSys,
     )
-        requires ascends { Ascends matched.now }
-        requires few { length matched.now ≤ 512 }
-        requires system { There langsys ≡ mapped lang_sys_head (lang_sys_of (S.reading source.now) at) }
-        ensures { Marked matched.now (among (names_of (lang_sys_of (S.reading source.now) at))) self.old self.new }
+        requires { There langsys ≡ mapped lang_sys_head (lang_sys_of (S.reading walk.now.source.now) at) }
+        ensures { Marked walk.now.matches.matched.now (among (names_of (lang_sys_of (S.reading walk.now.source.now) at))) self.old self.new }
     {
-        if langsys.required != 0xffff {
-            self.retain(matched, langsys.required);
+        if let Some(required) = langsys.required_feature() {
+            self.retain(&walk.matches, required);
         }
-        self.retain_listed(source, matched, at, langsys.count);
+        self.retain_listed(walk, at, langsys.count);
     }
 
     // Keeps a pair.
     fn add_script_langsys(&mut self, script: u16, lang_sys: u16) -> Result<(), Refusal>
-        ensures { MatchResult result (λ _. (self.old.pair_count < 2048) × (self.new ≡ with_pair (record { script = script; lang_sys = lang_sys }) self.old)) (λ f. (f ≡ TooManyPairs) × (2048 ≤ self.old.pair_count)) }
+        ensures { MatchResult result (λ _. (length self.old.pairs < 2048) × (self.new ≡ with_pair (record { script = script; lang_sys = lang_sys }) self.old)) (λ f. (f ≡ TooManyPairs) × (2048 ≤ length self.old.pairs)) }
     {
-        if self.pair_count >= 2048 {
+        if self.pairs.is_full() {
             return Err(Refusal::TooManyPairs);
         }
-        self.pairs[self.pair_count] = Pair { script, lang_sys };
-        self.pair_count += 1;
+        self.pairs.push(Pair { script, lang_sys });
         Ok(())
     }
 
@@ -135,17 +122,14 @@ impl PruneLangSysContext {
     #[tactic(auto, using(crate::proofs::Walking::collected_records))]
     fn prune_record<S: Source>(
         &mut self,
-        source: &S,
-        matched: &[u16],
-        earliest: &[u16],
+        walk: &ScriptWalk<'_, '_, '_, S>,
         script: u16,
         lang_sys: u16,
     ) -> Result<bool, Refusal>
-        requires { Paired matched.now earliest.now }
-        ensures { (w : Walk) → Agrees matched.now self.old w → Goes matched.now (record_step (lookup_beside nat_eq matched.now earliest.now) (lang_sys_of (S.reading source.now) (Default script)) (record { script = script; lang_sys = lang_sys }) (lang_sys_of (S.reading source.now) (Record script lang_sys)) w) self.new result }
+        ensures { (w : Walk) → Agrees walk.now.matches.matched.now self.old w → Goes walk.now.matches.matched.now (record_step (lookup_beside nat_eq walk.now.matches.matched.now walk.now.matches.earliest.now) (lang_sys_of (S.reading walk.now.source.now) (Default script)) (record { script = script; lang_sys = lang_sys }) (lang_sys_of (S.reading walk.now.source.now) (Record script lang_sys)) w) self.new result }
     {
         let at = LangSysPlace::Record { script, lang_sys };
-        let langsys = match source.lang_sys(at) {
+        let langsys = match walk.source.lang_sys(at) {
             Standing::Absent => return Ok(true),
             Standing::Unreadable => return Ok(false),
             Standing::There(l) => l,
@@ -153,8 +137,8 @@ impl PruneLangSysContext {
         if !self.visit_langsys(langsys.count) {
             return Ok(false);
         }
-        if !is_like_default(source, matched, earliest, script, lang_sys) {
-            self.collect_langsys_features(source, matched, at, langsys);
+        if !walk.is_like_default(script, lang_sys) {
+            self.collect_langsys_features(walk, at, langsys);
             self.add_script_langsys(script, lang_sys)?;
         }
         Ok(true)
@@ -163,18 +147,15 @@ impl PruneLangSysContext {
     // Walks the language system records of a script.
     fn prune_records<S: Source>(
         &mut self,
-        source: &S,
-        matched: &[u16],
-        earliest: &[u16],
+        walk: &ScriptWalk<'_, '_, '_, S>,
         at: u16,
         count: u16,
     ) -> Result<(), Refusal>
-        requires paired { Paired matched.now earliest.now }
-        requires count { count ≡ length (lang_sys_records (script (S.reading source.now) at)) }
-        ensures { (w : Walk) → Agrees matched.now self.old w → Walks matched.now (walk_records (lookup_beside nat_eq matched.now earliest.now) (lang_sys_of (S.reading source.now) (Default at)) at 0 (lang_sys_records (script (S.reading source.now) at)) w) self.new result }
+        requires { count ≡ length (lang_sys_records (script (S.reading walk.now.source.now) at)) }
+        ensures { (w : Walk) → Agrees walk.now.matches.matched.now self.old w → Walks walk.now.matches.matched.now (walk_records (lookup_beside nat_eq walk.now.matches.matched.now walk.now.matches.earliest.now) (lang_sys_of (S.reading walk.now.source.now) (Default at)) at 0 (lang_sys_records (script (S.reading walk.now.source.now) at)) w) self.new result }
     {
         for k in 0..count {
-            if !self.prune_record(source, matched, earliest, at, k)? {
+            if !self.prune_record(walk, at, k)? {
                 return Ok(());
             }
         }
@@ -182,15 +163,13 @@ impl PruneLangSysContext {
     }
 
     // Visits the default language system of a script.
-    fn prune_default<S: Source>(&mut self, source: &S, matched: &[u16], script: u16)
-        requires ascends { Ascends matched.now }
-        requires few { length matched.now ≤ 512 }
-        ensures { (w : Walk) → Agrees matched.now self.old w → Agrees matched.now self.new (visit_default (lang_sys_of (S.reading source.now) (Default script)) w) }
+    fn prune_default<S: Source>(&mut self, walk: &ScriptWalk<'_, '_, '_, S>, script: u16)
+        ensures { (w : Walk) → Agrees walk.now.matches.matched.now self.old w → Agrees walk.now.matches.matched.now self.new (visit_default (lang_sys_of (S.reading walk.now.source.now) (Default script)) w) }
     {
         let at = LangSysPlace::Default { script };
-        if let Standing::There(langsys) = source.lang_sys(at) {
+        if let Standing::There(langsys) = walk.source.lang_sys(at) {
             if self.visit_langsys(langsys.count) {
-                self.collect_langsys_features(source, matched, at, langsys);
+                self.collect_langsys_features(walk, at, langsys);
             }
         }
     }
@@ -198,64 +177,48 @@ impl PruneLangSysContext {
     // Walks a script that can be read.
     fn prune_script_langsys<S: Source>(
         &mut self,
-        source: &S,
-        matched: &[u16],
-        earliest: &[u16],
+        walk: &ScriptWalk<'_, '_, '_, S>,
         at: u16,
         count: u16,
     ) -> Result<(), Refusal>
-        requires paired { Paired matched.now earliest.now }
-        requires count { count ≡ length (lang_sys_records (script (S.reading source.now) at)) }
-        ensures { (w : Walk) → Agrees matched.now self.old w → Walks matched.now (counted_script (lookup_beside nat_eq matched.now earliest.now) at (lang_sys_of (S.reading source.now) (Default at)) (lang_sys_records (script (S.reading source.now) at)) w) self.new result }
+        requires { count ≡ length (lang_sys_records (script (S.reading walk.now.source.now) at)) }
+        ensures { (w : Walk) → Agrees walk.now.matches.matched.now self.old w → Walks walk.now.matches.matched.now (counted_script (lookup_beside nat_eq walk.now.matches.matched.now walk.now.matches.earliest.now) at (lang_sys_of (S.reading walk.now.source.now) (Default at)) (lang_sys_records (script (S.reading walk.now.source.now) at)) w) self.new result }
     {
-        if is_empty_script(source, at, count) || !self.visit_script() {
+        if walk.is_empty_script(at, count) || !self.visit_script() {
             return Ok(());
         }
-        self.prune_default(source, matched, at);
-        self.prune_records(source, matched, earliest, at, count)
+        self.prune_default(walk, at);
+        self.prune_records(walk, at, count)
     }
 
     // Walks a script if its tag is kept, and answers whether the scripts after it are walked.
     fn prune_script<S: Source>(
         &mut self,
-        source: &S,
-        tags: &[Tag],
-        matched: &[u16],
-        earliest: &[u16],
+        walk: &ScriptWalk<'_, '_, '_, S>,
         script: u16,
     ) -> Result<bool, Refusal>
-        requires paired { Paired matched.now earliest.now }
-        requires tags { Ascending TagBefore tags.now }
-        ensures { (w : Walk) → Agrees matched.now self.old w → Goes matched.now (script_step (lookup_beside nat_eq matched.now earliest.now) (map code_of tags.now) script (script_record (S.reading source.now) script) w) self.new result }
+        ensures { (w : Walk) → Agrees walk.now.matches.matched.now self.old w → Goes walk.now.matches.matched.now (script_step (lookup_beside nat_eq walk.now.matches.matched.now walk.now.matches.earliest.now) (map code_of walk.now.tags.now) script (script_record (S.reading walk.now.source.now) script) w) self.new result }
     {
-        if !is_kept_script(source, tags, script) {
+        if !walk.is_kept_script(script) {
             return Ok(true);
         }
-        match source.script(script) {
+        match walk.source.script(script) {
             Standing::Absent => Ok(true),
             Standing::Unreadable => Ok(false),
             Standing::There(count) => {
-                self.prune_script_langsys(source, matched, earliest, script, count)?;
+                self.prune_script_langsys(walk, script, count)?;
                 Ok(true)
             }
         }
     }
 
     // Walks the scripts.
-    fn prune_scripts<S: Source>(
-        &mut self,
-        source: &S,
-        tags: &[Tag],
-        matched: &[u16],
-        earliest: &[u16],
-    ) -> Result<(), Refusal>
-        requires paired { Paired matched.now earliest.now }
-        requires tags { Ascending TagBefore tags.now }
-        ensures { (w : Walk) → Agrees matched.now self.old w → Walks matched.now (walk_scripts (lookup_beside nat_eq matched.now earliest.now) (map code_of tags.now) 0 (listed (S.reading source.now).scripts) w) self.new result }
+    fn prune_scripts<S: Source>(&mut self, walk: &ScriptWalk<'_, '_, '_, S>) -> Result<(), Refusal>
+        ensures { (w : Walk) → Agrees walk.now.matches.matched.now self.old w → Walks walk.now.matches.matched.now (walk_scripts (lookup_beside nat_eq walk.now.matches.matched.now walk.now.matches.earliest.now) (map code_of walk.now.tags.now) 0 (listed (S.reading walk.now.source.now).scripts) w) self.new result }
     {
-        let count = source.script_list().count();
+        let count = walk.source.script_list().count();
         for script in 0..count {
-            if !self.prune_script(source, tags, matched, earliest, script)? {
+            if !self.prune_script(walk, script)? {
                 return Ok(());
             }
         }
@@ -266,36 +229,31 @@ impl PruneLangSysContext {
     pub(crate) fn choose(&self, from: &[u16], out: &mut [u16]) -> usize
         requires few { length from.now ≤ 512 }
         requires room { length from.now ≤ length out.old }
+        ensures within { result ≤ length from.now }
         ensures count { result ≡ length (chosen self.now.named from.now) }
         ensures list { take result out.new ≡ chosen self.now.named from.now }
     {
         let mut n = 0;
-        for p in 0..from.len() {
+        for (p, number) in from.iter().enumerate() {
             if self.named[p] {
-                out[n] = from[p];
+                out[n] = *number;
                 n += 1;
             }
         }
         n
     }
 
-    // Walks the scripts with kept tags, and writes the retained indices, ascending. Answers how many pairs are kept and
-    // how many indices are retained.
+    // Walks the scripts with kept tags, and writes the retained indices, ascending. Answers how many there are.
     pub(crate) fn prune_langsys<S: Source>(
         &mut self,
-        source: &S,
-        tags: &[Tag],
-        matched: &[u16],
-        earliest: &[u16],
+        walk: &ScriptWalk<'_, '_, '_, S>,
         out: &mut [u16],
-    ) -> Result<(usize, usize), Refusal>
-        requires paired { Paired matched.now earliest.now }
-        requires room { length matched.now ≤ length out.old }
-        requires tags { Ascending TagBefore tags.now }
-        ensures { (w : Walk) → Agrees matched.now self.old w → Pruned matched.now (walk_scripts (lookup_beside nat_eq matched.now earliest.now) (map code_of tags.now) 0 (listed (S.reading source.now).scripts) w) self.new out.new result }
+    ) -> Result<usize, Refusal>
+        requires { length walk.now.matches.matched.now ≤ length out.old }
+        ensures within { IfOk result (λ n. n ≤ length walk.now.matches.matched.now) }
+        ensures pruned { (w : Walk) → Agrees walk.now.matches.matched.now self.old w → Pruned walk.now.matches.matched.now (walk_scripts (lookup_beside nat_eq walk.now.matches.matched.now walk.now.matches.earliest.now) (map code_of walk.now.tags.now) 0 (listed (S.reading walk.now.source.now).scripts) w) self.new out.new result }
     {
-        self.prune_scripts(source, tags, matched, earliest)?;
-        let retained = self.choose(matched, out);
-        Ok((self.pair_count, retained))
+        self.prune_scripts(walk)?;
+        Ok(self.choose(walk.matches.matched, out))
     }
 }

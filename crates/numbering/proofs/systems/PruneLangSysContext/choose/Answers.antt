@@ -33,4 +33,4 @@ returns c =
     let xs = c.args.from.now in
     let front = take c.loop-p.n c.loop-p.out in
     let list = sym (append-nil front) ∙ (sym (ap (λ l. front ++ l) (chosen_none bs xs c.loop-p.p c.loop-p-test.false)) ∙ c.loop-p.invariant.1) in
-    record { count = sym (length-take-le c.loop-p.n c.loop-p.out (omega (arith, c.requires.room))) ∙ ap length list; list = list }
+    record { within = omega arith; count = sym (length-take-le c.loop-p.n c.loop-p.out (omega (arith, c.requires.room))) ∙ ap length list; list = list }

@@ -1,6 +1,5 @@
-use Rattle.std.proofs.Common.{refl, arith}
-use Rattle.keys.specs.declared.pairs.Pair.{Pair}
-use Rattle.std.proofs.lemmas.List.{length-replicate, get_or-replicate}
+use Rattle.std.proofs.Common.{length, refl, ap, arith}
+use Rattle.std.proofs.lemmas.List.{get_or-replicate}
 use Rattle.numbering.proofs.systems.PruneLangSysContext.new.Goals as goal
 
 pub returns : goal.returns
@@ -9,7 +8,6 @@ returns c = λ ms few. record {
   sum = refl;
   flags = few;
   named = λ p h. get_or-replicate 512 p _ _ (omega arith);
-  slots = length-replicate {A = Pair} 2048 (record { script = 0; lang_sys = 0 });
-  filled = omega arith;
-  pairs = refl;
+  filled = omega (arith, ap length c.new.ensures);
+  pairs = c.new.ensures;
 }

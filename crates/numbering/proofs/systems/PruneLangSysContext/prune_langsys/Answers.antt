@@ -2,20 +2,20 @@ use Rattle.std.proofs.Common.{eqb, map, length, ap, ◌∙◌}
 use Rattle.std.proofs.lemmas.Result.{err_from_is_err_and}
 use Rattle.source.specs.Standings.{listed}
 use Rattle.numbering.specs.Systems.{code_of, walk_scripts}
-use Rattle.numbering.proofs.Walking.{pairs-kept}
 use Rattle.numbering.proofs.Whole.{chosen-retained}
 use Rattle.numbering.proofs.systems.PruneLangSysContext.prune_langsys.Goals as goal
 use Rattle.numbering.specs.Sets.{lookup_beside}
 
-pub returns-in_err-prune_scripts : goal.returns-in_err-prune_scripts
-returns-in_err-prune_scripts g c =
+pub returns-in_err-prune_scripts-clause-pruned : goal.returns-in_err-prune_scripts-clause-pruned
+returns-in_err-prune_scripts-clause-pruned g c =
     let p = err_from_is_err_and c.from_residual.result c.from_residual.ensures.1 in rw (p.1, p.2) (λ w a. c.in_err-prune_scripts.ensures w a)
 
-pub returns : goal.returns
-returns g c =
-    let r = g.S.Source.reading c.args.source.now in
-    let ms = c.args.matched.now in
+pub returns-clause-pruned : goal.returns-clause-pruned
+returns-clause-pruned g c =
+    let walk = c.args.walk.now in
+    let r = g.S.Source.reading walk.source.now in
+    let ms = walk.matches.matched.now in
     λ w a.
     let agrees = c.in_ok-prune_scripts.ensures w a in
-    let kept = chosen-retained ms c.prune_scripts.new.self (walk_scripts (lookup_beside eqb ms c.args.earliest.now) (map code_of c.args.tags.now) 0 (listed r.scripts) w) agrees in
-    (agrees, pairs-kept agrees, c.choose-retained.ensures.count ∙ ap length kept, c.choose-retained.ensures.list ∙ kept)
+    let kept = chosen-retained ms c.prune_scripts.new.self (walk_scripts (lookup_beside eqb ms walk.matches.earliest.now) (map code_of walk.tags.now) 0 (listed r.scripts) w) agrees in
+    (agrees, c.choose.ensures.count ∙ ap length kept, c.choose.ensures.list ∙ kept)

@@ -11,9 +11,9 @@ use Rattle.numbering.specs.Sets.{lookup_beside}
 
 pub returns-in_err-prune_script : goal.returns-in_err-prune_script
 returns-in_err-prune_script g c =
-    let r = g.S.Source.reading c.args.source.now in
-    let m = lookup_beside eqb c.args.matched.now c.args.earliest.now in
-    let ts = map code_of c.args.tags.now in
+    let r = g.S.Source.reading c.args.walk.now.source.now in
+    let m = lookup_beside eqb c.args.walk.now.matches.matched.now c.args.walk.now.matches.earliest.now in
+    let ts = map code_of c.args.walk.now.tags.now in
     let xs = listed r.scripts in
     let k = c.loop-script.script in
     let size = c.count-count.ensures ∙ (ap counted c.script_list.ensures ∙ listed-count r.scripts) in
@@ -28,24 +28,24 @@ returns-in_err-prune_script g c =
 
 pub returns-then-not-branch : goal.returns-then-not-branch
 returns-then-not-branch g c =
-    let r = g.S.Source.reading c.args.source.now in
-    let m = lookup_beside eqb c.args.matched.now c.args.earliest.now in
-    let ts = map code_of c.args.tags.now in
+    let r = g.S.Source.reading c.args.walk.now.source.now in
+    let m = lookup_beside eqb c.args.walk.now.matches.matched.now c.args.walk.now.matches.earliest.now in
+    let ts = map code_of c.args.walk.now.tags.now in
     let xs = listed r.scripts in
     let k = c.loop-script.script in
     let size = c.count-count.ensures ∙ (ap counted c.script_list.ensures ∙ listed-count r.scripts) in
     λ v a.
     let i = c.loop-script.invariant v a in
     let ended = c.in_ok-prune_script.ensures i.0 i.1 in
-    subst (Agrees c.args.matched.now c.prune_script.new.self)
+    subst (Agrees c.args.walk.now.matches.matched.now c.prune_script.new.self)
     (step-ends (script_step m ts k (get_or xs k no_script) i.0) (walk_scripts m ts (k + 1) (drop (k + 1) xs)) _ _ (scripts-at m ts k xs i.0 (omega (arith, size))) i.2 (sym ended.0 ∙ c.if-not-branch.true))
     ended.1
 
 pub loop-script-preserved : goal.loop-script-preserved
 loop-script-preserved g c =
-    let r = g.S.Source.reading c.args.source.now in
-    let m = lookup_beside eqb c.args.matched.now c.args.earliest.now in
-    let ts = map code_of c.args.tags.now in
+    let r = g.S.Source.reading c.args.walk.now.source.now in
+    let m = lookup_beside eqb c.args.walk.now.matches.matched.now c.args.walk.now.matches.earliest.now in
+    let ts = map code_of c.args.walk.now.tags.now in
     let xs = listed r.scripts in
     let k = c.loop-script.script in
     let size = c.count-count.ensures ∙ (ap counted c.script_list.ensures ∙ listed-count r.scripts) in
@@ -57,11 +57,11 @@ loop-script-preserved g c =
 
 pub returns : goal.returns
 returns g c =
-    let r = g.S.Source.reading c.args.source.now in
-    let m = lookup_beside eqb c.args.matched.now c.args.earliest.now in
-    let ts = map code_of c.args.tags.now in
+    let r = g.S.Source.reading c.args.walk.now.source.now in
+    let m = lookup_beside eqb c.args.walk.now.matches.matched.now c.args.walk.now.matches.earliest.now in
+    let ts = map code_of c.args.walk.now.tags.now in
     let xs = listed r.scripts in
     let size = c.count-count.ensures ∙ (ap counted c.script_list.ensures ∙ listed-count r.scripts) in
     λ v a.
     let i = c.loop-script.invariant v a in
-    subst (Agrees c.args.matched.now c.loop-script.self) (sym (at_drop_all (λ l. walk_scripts m ts c.loop-script.script l i.0) xs c.loop-script.script (omega (arith, size))) ∙ i.2) i.1
+    subst (Agrees c.args.walk.now.matches.matched.now c.loop-script.self) (sym (at_drop_all (λ l. walk_scripts m ts c.loop-script.script l i.0) xs c.loop-script.script (omega (arith, size))) ∙ i.2) i.1

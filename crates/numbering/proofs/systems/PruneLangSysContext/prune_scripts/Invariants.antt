@@ -7,6 +7,6 @@ use Rattle.numbering.specs.Sets.{lookup_beside}
 
 abbrev pub invariant-loop-script : goal.invariant-loop-script
 invariant-loop-script g l =
-    let xs = listed (g.S.Source.reading l.source).scripts in
-    let walk = walk_scripts (lookup_beside eqb l.matched l.earliest) (map code_of l.tags) in
-    (v : Walk) → Agrees l.matched l.initial.self v → (w : Walk) × Agrees l.matched l.self w × (walk l.script (drop l.script xs) w ≡ walk 0 xs v)
+    let xs = listed (g.S.Source.reading l.walk.source.now).scripts in
+    let walk = walk_scripts (lookup_beside eqb l.walk.matches.matched.now l.walk.matches.earliest.now) (map code_of l.walk.tags.now) in
+    (v : Walk) → Agrees l.walk.matches.matched.now l.initial.self v → (w : Walk) × Agrees l.walk.matches.matched.now l.self w × (walk l.script (drop l.script xs) w ≡ walk 0 xs v)

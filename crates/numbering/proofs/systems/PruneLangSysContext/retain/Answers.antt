@@ -1,9 +1,6 @@
-use Rattle.std.proofs.Common.{◌≡◌, length, arith, rules}
-use Rattle.numbering.proofs.Marking.{marked-at}
+use Rattle.std.proofs.lemmas.Option.{MatchOption-at_none}
+use Rattle.numbering.proofs.Marking.{marked-absent}
 use Rattle.numbering.proofs.systems.PruneLangSysContext.retain.Goals as goal
 
-pub returns-in-Ok : goal.returns-in-Ok
-returns-in-Ok c =
-    let found = c.in-Ok.ensures.found in
-    let size : length c.args.self.now.named ≡ 512 = search rules in
-    marked-at c.args.matched.now c.args.self.now c.in-Ok.p c.args.index c.requires.ascends (omega (arith, c.requires.few)) found.0 found.1
+pub returns-in_default : goal.returns-in_default
+returns-in_default c = marked-absent c.args.matches.now.matched.now c.args.self.now c.args.index (MatchOption-at_none _ _ c.in_default.is c.place.ensures)

@@ -9,16 +9,16 @@ use Rattle.numbering.proofs.systems.PruneLangSysContext.retain_listed.Goals.{in-
 
 pub loop-k-preserved : goal.loop-k-preserved
 loop-k-preserved g c =
-    let xs = indices_of (lang_sys_of (g.S.Source.reading c.args.source.now) c.args.at) in
-    let ms = c.args.matched.now in
+    let xs = indices_of (lang_sys_of (g.S.Source.reading c.args.walk.now.source.now) c.args.at) in
+    let ms = c.args.walk.now.matches.matched.now in
     elim c.match-feature_index.branch [
       | in-Some w ↦
           subst (λ s. Marked ms (among (take (c.loop-k.k + 1) xs)) c.args.self.now s) (sym w.self-is)
-          (marked_more xs c.loop-k.k w.in-Some.index (omega (arith, c.requires.count)) (nth-found xs c.loop-k.k w.in-Some.index w.in-Some.ensures) c.loop-k.invariant w.retain.ensures)
-      | in_default w ↦ absurd (nth-there xs c.loop-k.k (omega (arith, c.requires.count)) w.in_default.ensures)
+          (marked_more xs c.loop-k.k w.in-Some.index (omega (arith, c.requires)) (nth-found xs c.loop-k.k w.in-Some.index w.in-Some.ensures) c.loop-k.invariant w.retain.ensures)
+      | in_default w ↦ absurd (nth-there xs c.loop-k.k (omega (arith, c.requires)) w.in_default.ensures)
     ]
 
 pub returns : goal.returns
 returns g c =
-    let xs = indices_of (lang_sys_of (g.S.Source.reading c.args.source.now) c.args.at) in
+    let xs = indices_of (lang_sys_of (g.S.Source.reading c.args.walk.now.source.now) c.args.at) in
     marked_all xs c.loop-k.k (omega arith) c.loop-k.invariant

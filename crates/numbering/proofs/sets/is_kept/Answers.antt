@@ -1,7 +1,0 @@
-use Rattle.std.proofs.lemmas.Bool.Decides.{same_from_decides}
-use Rattle.numbering.proofs.Members.{among-decides}
-use Rattle.numbering.proofs.sets.is_kept.Goals as goal
-
-pub returns : goal.returns
-returns c =
-    same_from_decides c.contains.result _ (c.contains.ensures.held, c.contains.ensures.found c.requires) (among-decides c.args.set.now c.args.x)
