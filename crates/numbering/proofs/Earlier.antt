@@ -92,9 +92,6 @@ module _ (r : Reading) (ls : List ℕ) where
       (cases_Bool (alike r ls j x))
 
 module _ (r : Reading) (ls ms : List ℕ) where
-  pub earliest-among : (x : ℕ) → among ms x ≡ true → among ms (earliest r ls ms x) ≡ true
-  earliest-among x a = earliest-kept r ls ms x a
-
   pub earliest-le : Ascends ms → (x : ℕ) → among ms x ≡ true → earliest r ls ms x ≤ x
   earliest-le up x a = earliest-least r ls ms x (up_from ms up) a
 

@@ -1,7 +1,6 @@
 -- The earliest match beside an index, and language systems that are there.
 use Rattle.std.proofs.Common.{◌≡◌, ℕ, zero, suc, ◌<◌, false, ◌&&◌, eqb, List, [], ◌∷◌, map, length, get_or, Some, None, Ok, Err, Decides, Option, Result, sym, refl, ap, ◌∙◌, ⊎_elim, arith}
 use Rattle.std.specs.List.{slice_get}
-use Rattle.std.proofs.lemmas.List.{length-map}
 use Rattle.std.proofs.lemmas.Bool.{cases_Bool, eq-eqb, ne_eqb, cond-true, cond-false, and_left}
 use Rattle.std.specs.Option.{MatchOption}
 use Rattle.std.specs.Result.{result_ok}
@@ -41,11 +40,6 @@ pub system-there : (s : Standing LangSysTable) (l : LangSys) → There l ≡ map
 system-there Absent l e = absurd (let z : ◌≡◌ {A = ℕ} 0 1 = cc in omega arith)
 system-there Unreadable l e = absurd (let z : ◌≡◌ {A = ℕ} 0 1 = cc in omega arith)
 system-there (There t) l e = (t, refl, there-same e)
-
-pub system-count : {X : Type 0} (f : ℕ → X) (s : Standing LangSysTable) (l : LangSys) → There l ≡ mapped lang_sys_head s → l.count ≡ length (map f (indices_of s))
-system-count f s l e =
-    let t = system-there s l e in
-    ap (λ x. x.count) t.2 ∙ (sym (length-map t.0.indices f) ∙ sym (ap (λ x. length (map f (indices_of x))) t.1))
 
 -- what a search answers
 pub found-place : (xs : List ℕ) (x : ℕ) (r : Result ℕ ℕ) (o : Option ℕ) → o ≡ result_ok r → Found (λ (a b : ℕ). a ≡ b) xs x r → Placed (λ a b. a < b) (λ (a b : ℕ). a ≡ b) xs x r → MatchOption o (among xs x ≡ false) (λ q. (q < length xs) × (get_or xs q 0 ≡ x))

@@ -1,30 +1,16 @@
 -- Flags beside matched indices.
-use Rattle.std.proofs.Common.{◌≡◌, ℕ, ◌+◌, ◌<◌, ◌≤◌, Bool, true, false, ◌||◌, eqb, ◌≢◌, List, [], ◌∷◌, ◌++◌, length, get_or, take, set, sym, refl, ap, ◌∙◌, ⊎_elim, arith}
-use Rattle.std.proofs.lemmas.List.{get_or_default, get_or-set_same, get_or-set_other, take_more, take_all, length-set}
-use Rattle.std.proofs.lemmas.Bool.{eq-eqb, ne_eqb, cases_eq, cases_lt, cond-true, cond-false}
+use Rattle.std.proofs.Common.{◌≡◌, ℕ, ◌+◌, ◌<◌, ◌≤◌, Bool, true, false, ◌||◌, eqb, List, [], ◌∷◌, ◌++◌, length, get_or, take, sym, refl, ap, ◌∙◌}
+use Rattle.std.proofs.lemmas.List.{get_or_default, take_more, take_all}
+use Rattle.std.proofs.lemmas.Bool.{ne_eqb}
 use Rattle.keys.specs.Slots.{Held}
-use Rattle.source.specs.declared.parts.LangSys.{LangSys}
-use Rattle.source.specs.declared.parts.Standing.{Standing}
-use Rattle.source.specs.declared.parts.Standing.TheVariants.{There}
-use Rattle.source.specs.Standings.{mapped}
-use Rattle.source.specs.Reading.{LangSysTable}
-use Rattle.source.specs.Questions.{indices_of, lang_sys_head}
 use Rattle.numbering.specs.declared.systems.PruneLangSysContext.{PruneLangSysContext}
-use Rattle.numbering.specs.Sets.{Ascends, among}
-use Rattle.numbering.specs.Systems.{names_of}
+use Rattle.numbering.specs.Sets.{among}
 use Rattle.numbering.specs.Context.{Marked}
-use Rattle.numbering.proofs.Looking.{system-there}
 
 or_swap : (a b c : Bool) → (a || (b || c)) ≡ (b || (a || c))
 or_swap true true c = refl
 or_swap true false c = refl
 or_swap false b c = refl
-
-or_comm : (a b : Bool) → (a || b) ≡ (b || a)
-or_comm true true = refl
-or_comm true false = refl
-or_comm false true = refl
-or_comm false false = refl
 
 or_assoc : (a b c : Bool) → (a || (b || c)) ≡ ((a || b) || c)
 or_assoc true b c = refl
@@ -33,21 +19,6 @@ or_assoc false b c = refl
 among-push : (xs : List ℕ) (y x : ℕ) → among (xs ++ (y ∷ [])) x ≡ (eqb y x || among xs x)
 among-push [] y x = refl
 among-push (z ∷ zs) y x = ap (λ b. eqb z x || b) (among-push zs y x) ∙ or_swap (eqb z x) (eqb y x) (among zs x)
-
--- no index stands at two places
-apart : (ms : List ℕ) (p q : ℕ) → Ascends ms → p < length ms → q < length ms → p ≢ q → get_or ms p 0 ≢ get_or ms q 0
-apart ms p q up hp hq n e =
-    ⊎_elim (λ h. omega (arith, up p q 0 h hq, e)) (λ h. omega (arith, up q p 0 (omega (arith, n)) hp, e)) (cases_lt p q)
-
-flag_at : (ms : List ℕ) (fs : List Bool) (p x : ℕ) → Ascends ms → length ms ≤ length fs → p < length ms → ((d : ℕ) → get_or ms p d ≡ x) → (q : ℕ) → q < length ms → get_or (set fs p true) q false ≡ (eqb x (get_or ms q 0) || get_or fs q false)
-flag_at ms fs p x up room h e q k =
-    ⊎_elim
-    (λ s. ap (λ i. get_or (set fs p true) i false) s ∙ (get_or-set_same fs p true false (omega arith) ∙ sym (ap (λ b. b || get_or fs q false) (eq-eqb x (get_or ms q 0) (sym (ap (λ i. get_or ms i 0) s ∙ e 0))))))
-    (λ n. get_or-set_other fs p q true false n ∙ sym (ap (λ b. b || get_or fs q false) (ne_eqb x (get_or ms q 0) (λ s. apart ms q p up k h n (sym (e 0 ∙ s))))))
-    (cases_eq q p)
-
-pub marked-at : (ms : List ℕ) (c : PruneLangSysContext) (p x : ℕ) → Ascends ms → length ms ≤ length c.named → p < length ms → ((d : ℕ) → get_or ms p d ≡ x) → Marked ms (eqb x) c (record { script_count = c.script_count; langsys_feature_count = c.langsys_feature_count; named = set c.named p true; pairs = c.pairs })
-marked-at ms c p x up room h e = record { scripts = refl; sum = refl; pairs = refl; flags = length-set c.named p true; named = flag_at ms c.named p x up room h e }
 
 pub marked-absent : (ms : List ℕ) (c : PruneLangSysContext) (x : ℕ) → (Held (λ (a b : ℕ). a ≡ b) ms x → ⊥) → Marked ms (eqb x) c c
 marked-absent ms c x n =
@@ -74,20 +45,3 @@ module _ {ms : List ℕ} where
 
   pub marked_all : (xs : List ℕ) (k : ℕ) {a b : PruneLangSysContext} → length xs ≤ k → Marked ms (among (take k xs)) a b → Marked ms (among xs) a b
   marked_all xs k h m = marked-as (λ x. ap (λ l. among l x) (take_all k xs h)) m
-
-  -- the required index, and the listed ones
-  pub marked-required : (s : Standing LangSysTable) (l : LangSys) {a b c : PruneLangSysContext} → There l ≡ mapped lang_sys_head s → (l.required ≡ 65535 → ⊥) → Marked ms (eqb l.required) a b → Marked ms (among (indices_of s)) b c → Marked ms (among (names_of s)) a c
-  marked-required s l e n m k =
-      let t = system-there s l e in
-      let r = ap (λ u. u.required) t.2 in
-      marked-as (λ x. or_comm (among (indices_of s) x) (eqb l.required x) ∙ sym (ap (λ u. among (names_of u) x) t.1
-      ∙ (ap (λ xs. among xs x) (cond-false (eqb t.0.required 65535) t.0.indices (t.0.required ∷ t.0.indices) (ne_eqb t.0.required 65535 (λ z. n (r ∙ z))))
-      ∙ (ap (λ q. eqb q x || among t.0.indices x) (sym r) ∙ ap (λ u. eqb l.required x || among (indices_of u) x) (sym t.1)))))
-      (marked-after m k)
-
-  pub marked-listed : (s : Standing LangSysTable) (l : LangSys) {a b : PruneLangSysContext} → There l ≡ mapped lang_sys_head s → l.required ≡ 65535 → Marked ms (among (indices_of s)) a b → Marked ms (among (names_of s)) a b
-  marked-listed s l e n m =
-      let t = system-there s l e in
-      let r = ap (λ u. u.required) t.2 in
-      marked-as (λ x. ap (λ u. among (indices_of u) x) t.1 ∙ sym (ap (λ u. among (names_of u) x) t.1
-      ∙ ap (λ xs. among xs x) (cond-true (eqb t.0.required 65535) t.0.indices (t.0.required ∷ t.0.indices) (eq-eqb t.0.required 65535 (sym r ∙ n))))) m

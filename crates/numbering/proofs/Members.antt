@@ -14,11 +14,9 @@ use Rattle.std.proofs.lemmas.Bool.{both_ways, eqb-true, eq-eqb, or_cases, or_lef
 use Rattle.keys.specs.Slots.{Held}
 use Rattle.source.specs.declared.parts.Standing.{Standing}
 use Rattle.source.specs.declared.parts.Standing.TheVariants.{Absent, Unreadable, There}
-use Rattle.source.specs.declared.parts.Substitution.{Substitution}
-use Rattle.source.specs.declared.parts.Variations.{Variations}
 use Rattle.source.specs.Standings.{mapped, counted}
-use Rattle.source.specs.Reading.{FeatureTable, SubstitutionRecord, SubstitutionTable, VariationsTable}
-use Rattle.source.specs.Questions.{lookups_of, index_of, no_substitution, substitution_records, substitution_head, variation_records, variations_head}
+use Rattle.source.specs.Reading.{FeatureTable, SubstitutionRecord}
+use Rattle.source.specs.Questions.{lookups_of, index_of, no_substitution}
 use Rattle.numbering.specs.Stages.{is_unreadable, names_alternate}
 use Rattle.numbering.specs.Sets.{among, any, passes}
 
@@ -105,16 +103,6 @@ other-feature ls i xs k (Some j) r e h n =
     n ∙ sym (and_left (eqb (get_or xs k no_substitution).index i) (any (among ls) (lookups_of (get_or xs k no_substitution).alternate)) (ap (λ x. eqb x i) (index-found xs k j (sym e)) ∙ (sym h ∙ n)))
 
 -- what a source tells of tables that are there
-
-pub substitution-there : (s : Standing SubstitutionTable) (h : Substitution) → There h ≡ mapped substitution_head s → (is_unreadable s ≡ false) × (h.count ≡ length (substitution_records s))
-substitution-there Absent h e = absurd (let z : ◌≡◌ {A = ℕ} 0 1 = cc in omega arith)
-substitution-there Unreadable h e = absurd (let z : ◌≡◌ {A = ℕ} 0 1 = cc in omega arith)
-substitution-there (There t) h e = (refl, ap (λ x. x.count) (there-same e))
-
-pub variations-there : (s : Standing VariationsTable) (h : Variations) → There h ≡ mapped variations_head s → h.count ≡ length (variation_records s)
-variations-there Absent h e = absurd (let z : ◌≡◌ {A = ℕ} 0 1 = cc in omega arith)
-variations-there Unreadable h e = absurd (let z : ◌≡◌ {A = ℕ} 0 1 = cc in omega arith)
-variations-there (There t) h e = ap (λ x. x.count) (there-same e)
 
 pub there-mapped : {X Y : Type 0} (f : X → Y) (s : Standing X) (y : Y) → There y ≡ mapped f s → (x : X) × (s ≡ There x)
 there-mapped f Absent y e = absurd (let z : ◌≡◌ {A = ℕ} 0 1 = cc in omega arith)

@@ -58,9 +58,6 @@ module _ (p : ℕ → Bool) where
   pub kept-ascends : (xs : List ℕ) → Ascends xs → Ascends (filter p xs)
   kept-ascends xs a = part_ascends (filter p xs) xs (kept-part xs) a
 
-  pub few-kept : (xs : List ℕ) → length (filter p xs) ≤ length xs
-  few-kept xs = part-few (kept-part xs)
-
   among-here : (b : Bool) (y : ℕ) (ks ys : List ℕ) (x : ℕ) → eqb y x ≡ true → p x ≡ b → among ks x ≡ (p x && among ys x) → among (cond b (y ∷ ks) ks) x ≡ (p x && among (y ∷ ys) x)
   among-here true y ks ys x e t h = or_left (eqb y x) (among ks x) e ∙ sym (and_from (p x) (among (y ∷ ys) x) t (or_left (eqb y x) (among ys x) e))
   among-here false y ks ys x e t h = h ∙ (and_left (p x) (among ys x) t ∙ sym (and_left (p x) (among (y ∷ ys) x) t))

@@ -99,9 +99,6 @@ script-there Absent n e = absurd (let z : ◌≡◌ {A = ℕ} 0 1 = cc in omega 
 script-there Unreadable n e = absurd (let z : ◌≡◌ {A = ℕ} 0 1 = cc in omega arith)
 script-there (There t) n e = (t, refl, there-same e)
 
-pub script-count : (s : Standing ScriptTable) (n : ℕ) → There n ≡ mapped (λ t. length t.records) s → n ≡ length (lang_sys_records s)
-script-count s n e = let t = script-there s n e in t.2 ∙ sym (ap (λ x. length (lang_sys_records x)) t.1)
-
 -- the step of a script that is there and kept
 pub kept_there : (m : ℕ → Option ℕ) (ts : List ℕ) (s : ℕ) (x : ScriptRecord) (w : Walk) (n : ℕ) → among ts x.tag ≡ true → There n ≡ mapped (λ t. length t.records) x.table → script_step m ts s x w ≡ record { goes_on = true; left = counted_script m s (default_of x.table) (lang_sys_records x.table) w }
 kept_there m ts s x w n k e =

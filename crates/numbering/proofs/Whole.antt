@@ -18,7 +18,7 @@ use Rattle.numbering.specs.declared.number.Numbering.{Numbering}
 use Rattle.numbering.specs.declared.number.Unnumbered.TheVariants.{Refused}
 use Rattle.numbering.proofs.Earlier.{earliest-settled}
 use Rattle.numbering.proofs.Lawful.{laws as laws-of}
-use Rattle.numbering.proofs.Retaining.{survivors-ascend, matched-ascends, few-survivors, few-matched, few-kept, kept-ascends, among-kept, chosen-kept, chosen-map}
+use Rattle.numbering.proofs.Retaining.{survivors-ascend, matched-ascends, few-survivors, few-matched, kept-ascends, among-kept, chosen-kept, chosen-map}
 
 -- the numbers with a flag, where the flags are those of a walk
 pub chosen-retained : (ms : List ℕ) (c : PruneLangSysContext) (w : Walk) → Agrees ms c w → chosen c.named ms ≡ retained ms w
@@ -38,9 +38,6 @@ module _ (r : Reading) (ls fs : List ℕ) where
     module _ (ts : List ℕ) where
       pub retained-up : Ascends (the_retained r ls fs ts)
       retained-up = kept-ascends (is_named (the_walk r ls fs ts).collected) (the_matched r ls fs) matched-up
-
-      pub retained-few : length (the_retained r ls fs ts) ≤ 512
-      retained-few = omega (arith, matched-few, few-kept (is_named (the_walk r ls fs ts).collected) (the_matched r ls fs))
 
       pub retained-settled : Settled (the_retained r ls fs ts) (first_alike r ls fs)
       retained-settled x h =

@@ -43,7 +43,7 @@ impl<'a, 'b, S: Source> Subset<'a, 'b, S> {
     pub(crate) fn is_alike(&self, j: u16, i: u16) -> bool
         ensures { result ≡ alike (S.reading self.now.source.now) self.now.lookups.items.now j i }
     {
-        if self.source.feature_tag(j).code != self.source.feature_tag(i).code {
+        if self.source.feature_tag(j) != self.source.feature_tag(i) {
             return false;
         }
         let a = KeptLookups {

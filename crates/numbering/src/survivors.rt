@@ -27,7 +27,7 @@ fn has_no_params<S: Source>(source: &S, i: u16) -> bool
 fn is_sized<S: Source>(source: &S, i: u16) -> bool
     ensures { result ≡ sized (S.reading source.now) i }
 {
-    source.feature_tag(i).code == SIZE.code && !has_no_params(source, i)
+    source.feature_tag(i) == SIZE && !has_no_params(source, i)
 }
 
 impl<'a, 'b, S: Source> Subset<'a, 'b, S> {
@@ -46,7 +46,7 @@ impl<'a, 'b, S: Source> Subset<'a, 'b, S> {
         requires { unread ≡ alternates_unread (S.reading self.now.source.now) }
         ensures { result ≡ judged (S.reading self.now.source.now) self.now.lookups.items.now i }
     {
-        let is_pref = self.source.feature_tag(i).code == PREF.code;
+        let is_pref = self.source.feature_tag(i) == PREF;
         match self.source.feature(FeaturePlace::Listed { feature: i }) {
             Standing::Absent => Standing::There(false),
             Standing::Unreadable => {

@@ -149,12 +149,10 @@ impl PruneLangSysContext {
         &mut self,
         walk: &ScriptWalk<'_, '_, '_, S>,
         at: u16,
-        count: u16,
     ) -> Result<(), Refusal>
-        requires { count ≡ length (lang_sys_records (script (S.reading walk.now.source.now) at)) }
         ensures { (w : Walk) → Agrees walk.now.matches.matched.now self.old w → Walks walk.now.matches.matched.now (walk_records (lookup_beside nat_eq walk.now.matches.matched.now walk.now.matches.earliest.now) (lang_sys_of (S.reading walk.now.source.now) (Default at)) at 0 (lang_sys_records (script (S.reading walk.now.source.now) at)) w) self.new result }
     {
-        for k in 0..count {
+        for k in 0..walk.record_count(at) {
             if !self.prune_record(walk, at, k)? {
                 return Ok(());
             }
@@ -179,16 +177,14 @@ impl PruneLangSysContext {
         &mut self,
         walk: &ScriptWalk<'_, '_, '_, S>,
         at: u16,
-        count: u16,
     ) -> Result<(), Refusal>
-        requires { count ≡ length (lang_sys_records (script (S.reading walk.now.source.now) at)) }
         ensures { (w : Walk) → Agrees walk.now.matches.matched.now self.old w → Walks walk.now.matches.matched.now (counted_script (lookup_beside nat_eq walk.now.matches.matched.now walk.now.matches.earliest.now) at (lang_sys_of (S.reading walk.now.source.now) (Default at)) (lang_sys_records (script (S.reading walk.now.source.now) at)) w) self.new result }
     {
-        if walk.is_empty_script(at, count) || !self.visit_script() {
+        if walk.is_empty_script(at) || !self.visit_script() {
             return Ok(());
         }
         self.prune_default(walk, at);
-        self.prune_records(walk, at, count)
+        self.prune_records(walk, at)
     }
 
     // Walks a script if its tag is kept, and answers whether the scripts after it are walked.
@@ -205,8 +201,8 @@ impl PruneLangSysContext {
         match walk.source.script(script) {
             Standing::Absent => Ok(true),
             Standing::Unreadable => Ok(false),
-            Standing::There(count) => {
-                self.prune_script_langsys(walk, script, count)?;
+            Standing::There(_) => {
+                self.prune_script_langsys(walk, script)?;
                 Ok(true)
             }
         }

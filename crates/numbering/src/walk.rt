@@ -3,7 +3,7 @@ ghost use Rattle.std.specs.Prelude.{◌≡◌, map, length};
 ghost use Rattle.keys.specs.Slots.{Ascending};
 ghost use Rattle.keys.specs.Tags.{TagBefore};
 ghost use Rattle.source.specs.declared.parts.LangSysPlace.TheVariants.{Default};
-ghost use Rattle.source.specs.Questions.{script, script_record, lang_sys_of, lang_sys_records};
+ghost use Rattle.source.specs.Questions.{script as script_of, script_record, lang_sys_of, lang_sys_records};
 ghost use Rattle.numbering.specs.Sets.{among};
 ghost use Rattle.numbering.specs.Systems.{code_of, is_empty};
 
@@ -22,20 +22,26 @@ pub(crate) struct ScriptWalk<'a, 'b, 'c, S> {
 
 impl<'a, 'b, 'c, S: Source> ScriptWalk<'a, 'b, 'c, S> {
     // Whether the tag of a script is kept.
-    pub(crate) fn is_kept_script(&self, at: u16) -> bool
-        ensures { result ≡ among (map code_of self.now.tags.now) (script_record (S.reading self.now.source.now) at).tag }
+    pub(crate) fn is_kept_script(&self, script: u16) -> bool
+        ensures { result ≡ among (map code_of self.now.tags.now) (script_record (S.reading self.now.source.now) script).tag }
     {
-        contains(self.tags, self.source.script_tag(at))
+        contains(self.tags, self.source.script_tag(script))
+    }
+
+    // How many language system records a script has.
+    pub(crate) fn record_count(&self, script: u16) -> u16
+        ensures { result ≡ length (lang_sys_records (script_of (S.reading self.now.source.now) script)) }
+    {
+        self.source.script(script).count()
     }
 
     // Whether a script has neither a default nor a record.
-    pub(crate) fn is_empty_script(&self, at: u16, count: u16) -> bool
-        requires { count ≡ length (lang_sys_records (script (S.reading self.now.source.now) at)) }
-        ensures { result ≡ is_empty (lang_sys_records (script (S.reading self.now.source.now) at)) (lang_sys_of (S.reading self.now.source.now) (Default at)) }
+    pub(crate) fn is_empty_script(&self, script: u16) -> bool
+        ensures { result ≡ is_empty (lang_sys_records (script_of (S.reading self.now.source.now) script)) (lang_sys_of (S.reading self.now.source.now) (Default script)) }
     {
-        count == 0
+        self.record_count(script) == 0
             && matches!(
-                self.source.lang_sys(LangSysPlace::Default { script: at }),
+                self.source.lang_sys(LangSysPlace::Default { script }),
                 Standing::Absent
             )
     }

@@ -22,7 +22,7 @@ returns-in_err-prune_record g c =
     let i = c.loop-k.invariant v a in
     let full = c.in_err-prune_record.ensures i.0 i.1 in (
       full.0,
-      step-full (record_step m d (record { script = c.args.at; lang_sys = k }) (get_or xs k no_lang_sys).table i.0) (walk_records m d c.args.at (k + 1) (drop (k + 1) xs)) _ _ (records-at m d c.args.at k xs i.0 (omega (arith, c.requires))) i.2 (records-more m d c.args.at (k + 1) (drop (k + 1) xs)) full.1,
+      step-full (record_step m d (record { script = c.args.at; lang_sys = k }) (get_or xs k no_lang_sys).table i.0) (walk_records m d c.args.at (k + 1) (drop (k + 1) xs)) _ _ (records-at m d c.args.at k xs i.0 (omega arith)) i.2 (records-more m d c.args.at (k + 1) (drop (k + 1) xs)) full.1,
     ))
 
 pub returns-then-not-branch : goal.returns-then-not-branch
@@ -36,7 +36,7 @@ returns-then-not-branch g c =
     let i = c.loop-k.invariant v a in
     let ended = c.in_ok-prune_record.ensures i.0 i.1 in
     subst (Agrees c.args.walk.now.matches.matched.now c.prune_record.new.self)
-    (step-ends (record_step m d (record { script = c.args.at; lang_sys = k }) (get_or xs k no_lang_sys).table i.0) (walk_records m d c.args.at (k + 1) (drop (k + 1) xs)) _ _ (records-at m d c.args.at k xs i.0 (omega (arith, c.requires))) i.2 (sym ended.0 ∙ c.if-not-branch.true))
+    (step-ends (record_step m d (record { script = c.args.at; lang_sys = k }) (get_or xs k no_lang_sys).table i.0) (walk_records m d c.args.at (k + 1) (drop (k + 1) xs)) _ _ (records-at m d c.args.at k xs i.0 (omega arith)) i.2 (sym ended.0 ∙ c.if-not-branch.true))
     ended.1
 
 pub loop-k-preserved : goal.loop-k-preserved
@@ -50,7 +50,7 @@ loop-k-preserved g c =
     let i = c.loop-k.invariant v a in
     let went = c.in_ok-prune_record.ensures i.0 i.1 in
     let st = record_step m d (record { script = c.args.at; lang_sys = k }) (get_or xs k no_lang_sys).table i.0 in
-    (st.left, went.1, step-goes st (walk_records m d c.args.at (k + 1) (drop (k + 1) xs)) _ _ (records-at m d c.args.at k xs i.0 (omega (arith, c.requires))) i.2 (sym went.0 ∙ c.if-not-branch.false))
+    (st.left, went.1, step-goes st (walk_records m d c.args.at (k + 1) (drop (k + 1) xs)) _ _ (records-at m d c.args.at k xs i.0 (omega arith)) i.2 (sym went.0 ∙ c.if-not-branch.false))
 
 pub returns : goal.returns
 returns g c =
@@ -59,4 +59,4 @@ returns g c =
     let xs = lang_sys_records (script r c.args.at) in
     λ v a.
     let i = c.loop-k.invariant v a in
-    subst (Agrees c.args.walk.now.matches.matched.now c.loop-k.self) (sym (at_drop_all (λ l. walk_records m (lang_sys_of r (Default c.args.at)) c.args.at c.loop-k.k l i.0) xs c.loop-k.k (omega (arith, c.requires))) ∙ i.2) i.1
+    subst (Agrees c.args.walk.now.matches.matched.now c.loop-k.self) (sym (at_drop_all (λ l. walk_records m (lang_sys_of r (Default c.args.at)) c.args.at c.loop-k.k l i.0) xs c.loop-k.k (omega arith)) ∙ i.2) i.1
