@@ -1,10 +1,10 @@
 -- Flags beside matched indices.
-use Rattle.std.proofs.Common.{◌≡◌, ℕ, ◌+◌, ◌<◌, ◌≤◌, Bool, true, false, ◌||◌, eqb, List, [], ◌∷◌, ◌++◌, length, get_or, take, sym, refl, ap, ◌∙◌}
-use Rattle.std.proofs.lemmas.List.{get_or_default, take_more, take_all}
-use Rattle.std.proofs.lemmas.Bool.{ne_eqb}
+use Rattle.std.proofs.Common.{◌≡◌, ℕ, ◌+◌, ◌<◌, ◌≤◌, Bool, true, false, ◌||◌, eqb, ◌≢◌, List, [], ◌∷◌, ◌++◌, length, get_or, take, set, sym, refl, ap, ◌∙◌, ⊎_elim, arith}
+use Rattle.std.proofs.lemmas.List.{get_or_default, get_or-set_same, get_or-set_other, take_more, take_all, length-set}
+use Rattle.std.proofs.lemmas.Bool.{eq-eqb, ne_eqb, cases_eq, cases_lt}
 use Rattle.keys.specs.Slots.{Held}
 use Rattle.numbering.specs.declared.systems.PruneLangSysContext.{PruneLangSysContext}
-use Rattle.numbering.specs.Sets.{among}
+use Rattle.numbering.specs.Sets.{Ascends, among}
 use Rattle.numbering.specs.Context.{Marked}
 
 or_swap : (a b c : Bool) → (a || (b || c)) ≡ (b || (a || c))
@@ -19,6 +19,21 @@ or_assoc false b c = refl
 among-push : (xs : List ℕ) (y x : ℕ) → among (xs ++ (y ∷ [])) x ≡ (eqb y x || among xs x)
 among-push [] y x = refl
 among-push (z ∷ zs) y x = ap (λ b. eqb z x || b) (among-push zs y x) ∙ or_swap (eqb z x) (eqb y x) (among zs x)
+
+-- no index stands at two places
+apart : (ms : List ℕ) (p q : ℕ) → Ascends ms → p < length ms → q < length ms → p ≢ q → get_or ms p 0 ≢ get_or ms q 0
+apart ms p q up hp hq n e =
+    ⊎_elim (λ h. omega (arith, up p q 0 h hq, e)) (λ h. omega (arith, up q p 0 (omega (arith, n)) hp, e)) (cases_lt p q)
+
+flag_at : (ms : List ℕ) (fs : List Bool) (p x : ℕ) → Ascends ms → length ms ≤ length fs → p < length ms → ((d : ℕ) → get_or ms p d ≡ x) → (q : ℕ) → q < length ms → get_or (set fs p true) q false ≡ (eqb x (get_or ms q 0) || get_or fs q false)
+flag_at ms fs p x up room h e q k =
+    ⊎_elim
+    (λ s. ap (λ i. get_or (set fs p true) i false) s ∙ (get_or-set_same fs p true false (omega arith) ∙ sym (ap (λ b. b || get_or fs q false) (eq-eqb x (get_or ms q 0) (sym (ap (λ i. get_or ms i 0) s ∙ e 0))))))
+    (λ n. get_or-set_other fs p q true false n ∙ sym (ap (λ b. b || get_or fs q false) (ne_eqb x (get_or ms q 0) (λ s. apart ms q p up k h n (sym (e 0 ∙ s))))))
+    (cases_eq q p)
+
+pub marked-at : (ms : List ℕ) (c : PruneLangSysContext) (p x : ℕ) → Ascends ms → length ms ≤ length c.named → p < length ms → ((d : ℕ) → get_or ms p d ≡ x) → Marked ms (eqb x) c (record { script_count = c.script_count; langsys_feature_count = c.langsys_feature_count; named = set c.named p true; pairs = c.pairs })
+marked-at ms c p x up room h e = record { scripts = refl; sum = refl; pairs = refl; flags = length-set c.named p true; named = flag_at ms c.named p x up room h e }
 
 pub marked-absent : (ms : List ℕ) (c : PruneLangSysContext) (x : ℕ) → (Held (λ (a b : ℕ). a ≡ b) ms x → ⊥) → Marked ms (eqb x) c c
 marked-absent ms c x n =

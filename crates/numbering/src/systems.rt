@@ -222,6 +222,7 @@ impl PruneLangSysContext {
     }
 
     // Writes the numbers that have a flag, and answers how many they are.
+    #[tactic(auto, using(crate::proofs::Growing::choosing))]
     pub(crate) fn choose(&self, from: &[u16], out: &mut [u16]) -> usize
         requires few { length from.now ≤ 512 }
         requires room { length from.now ≤ length out.old }

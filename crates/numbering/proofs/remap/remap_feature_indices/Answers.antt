@@ -1,19 +1,8 @@
 use Rattle.std.proofs.Common.{◌≡◌, ◌-◌, length, arith}
-use Rattle.std.proofs.lemmas.List.{length-take}
 use Rattle.numbering.proofs.Ranks.{place-le}
-use Rattle.numbering.proofs.Remapping.{ascends-take, turn-shared, turn-own, all-numbers, all-owners}
+use Rattle.numbering.proofs.Remapping.{ascends-take, turn-shared, turn-own, all-numbers}
 use Rattle.numbering.proofs.remap.remap_feature_indices.Goals as goal
 use Rattle.numbering.proofs.remap.remap_feature_indices.Goals.{in-Some, in-None}
-
-pub offset_bounds-numbers-q : goal.offset_bounds-numbers-q
-offset_bounds-numbers-q c =
-    let up = ascends-take c.args.retained.now c.requires.ascends (c.loop-k.k - 0) (omega arith) in
-    omega (arith, (c.in-Some.ensures up).0, length-take (c.loop-k.k - 0) c.args.retained.now)
-
-pub bounds-numbers-q : goal.bounds-numbers-q
-bounds-numbers-q c =
-    let up = ascends-take c.args.retained.now c.requires.ascends (c.loop-k.k - 0) (omega arith) in
-    omega (arith, (c.in-Some.ensures up).0, length-take (c.loop-k.k - 0) c.args.retained.now)
 
 pub overflow_cast-numbers : goal.overflow_cast-numbers
 overflow_cast-numbers c = omega (arith, c.type_inv.retained c.loop-k.k, place-le c.args.retained.now c.requires.ascends c.loop-k.k c.loop-k-test.true)
@@ -32,14 +21,7 @@ loop-k-preserved c =
       | in-None w ↦ rw (w.numbers-is, w.own-is) (turn-own rs es old ns k own c.requires.ascends c.loop-k-test.true (omega arith) c.loop-k.invariant (w.in-None.ensures up))
     ]
 
-pub returns : goal.returns
-returns c =
-    let rs = c.args.retained.now in
-    let k = c.loop-k.k in
+pub returns-clause-list : goal.returns-clause-list
+returns-clause-list c =
     let all : c.loop-k.k ≡ length c.args.retained.now = omega arith in
-    record {
-      within = omega arith;
-      count = λ f e s. all-owners rs f k c.loop-k.numbers c.loop-k.own (c.loop-k.invariant.2 f e s) all;
-      list = λ f e s. all-numbers rs f k c.loop-k.numbers c.loop-k.own (c.loop-k.invariant.2 f e s) all (omega arith);
-      rest = c.loop-k.invariant.1;
-    }
+    λ f e s. all-numbers c.args.retained.now f c.loop-k.k c.loop-k.numbers c.loop-k.own (c.loop-k.invariant.2 f e s) all (omega arith)

@@ -1,14 +1,9 @@
 use Rattle.std.proofs.Common.{eqb, map, length, ap, ◌∙◌}
-use Rattle.std.proofs.lemmas.Result.{err_from_is_err_and}
 use Rattle.source.specs.Standings.{listed}
 use Rattle.numbering.specs.Systems.{code_of, walk_scripts}
 use Rattle.numbering.proofs.Whole.{chosen-retained}
 use Rattle.numbering.proofs.systems.PruneLangSysContext.prune_langsys.Goals as goal
 use Rattle.numbering.specs.Sets.{lookup_beside}
-
-pub returns-in_err-prune_scripts-clause-pruned : goal.returns-in_err-prune_scripts-clause-pruned
-returns-in_err-prune_scripts-clause-pruned g c =
-    let p = err_from_is_err_and c.from_residual.result c.from_residual.ensures.1 in rw (p.1, p.2) (λ w a. c.in_err-prune_scripts.ensures w a)
 
 pub returns-clause-pruned : goal.returns-clause-pruned
 returns-clause-pruned g c =
