@@ -1,8 +1,8 @@
 -- Chains of places, and a walk along one to a feature that is alike.
 --   Past at     the walk is at a place of the chain, and no survivor from there on is alike
-use Rattle.std.proofs.Common.{◌≡◌, ℕ, zero, suc, ◌+◌, ◌-◌, ◌%◌, ◌<◌, ◌≤◌, true, false, eqb, ◌≢◌, List, [], ◌∷◌, length, get_or, take, set, Some, None, Option, sym, refl, ap, ◌∙◌, subst, ⊎_elim, add-one, arith, below_more}
-use Rattle.std.proofs.lemmas.List.{get_or-set_same, get_or-set_other, get_or-take, length-take-le, take-take}
-use Rattle.std.proofs.lemmas.Bool.{cases_Bool, cases_eq, cases_lt, cond_both, cond-true, cond-false, eq-eqb, ne_eqb, eqb-true, eqb-false, or_left, or_right}
+use Rattle.std.proofs.Common.{◌≡◌, ℕ, zero, suc, ◌+◌, ◌-◌, ◌%◌, ◌<◌, ◌≤◌, true, false, eqb, ◌≢◌, List, [], ◌∷◌, length, get_or, take, Some, None, Option, sym, refl, ap, ◌∙◌, subst, ⊎_elim, arith}
+use Rattle.std.proofs.lemmas.List.{get_or-take, length-take-le, take-take}
+use Rattle.std.proofs.lemmas.Bool.{cases_Bool, cases_eq, cases_lt, cond_both, cond-false, eq-eqb, eqb-true, eqb-false, or_left, or_right}
 use Rattle.source.specs.Reading.{Reading}
 use Rattle.source.specs.Questions.{feature_record}
 use Rattle.numbering.specs.declared.chains.Chains.{Chains}
@@ -35,24 +35,6 @@ module _ (f : ℕ → ℕ) where
       cond_both (eqb (f u) b) (Some u) (last_in f u b) (λ x. after x ≤ p → p < suc u → f p ≡ b → ⊥)
       (λ _ l h e. omega arith)
       (λ n l h e. ⊎_elim (λ s. eqb-false (f u) b n (sym (ap f s) ∙ e)) (λ (s : p ≡ u → ⊥). none-since u b p l (omega arith) e) (cases_eq p u))
-
-  last-here : (v b : ℕ) → f v ≡ b → Some v ≡ last_in f (v + 1) b
-  last-here v b e = rw add-one (sym (cond-true (eqb (f v) b) (Some v) (last_in f v b) (eq-eqb (f v) b e)))
-
-  last-there : (v b : ℕ) → (f v ≡ b → ⊥) → last_in f v b ≡ last_in f (v + 1) b
-  last-there v b n = rw add-one (sym (cond-false (eqb (f v) b) (Some v) (last_in f v b) (ne_eqb (f v) b n)))
-
-  module _ (k : Chains) (v b : ℕ) (heads : length k.heads ≡ 239) (nexts : length k.nexts ≡ 512) (in' : v < 512) (b-in : b < 239) where
-    pub chained_more : Chained k f v → f v ≡ b → Chained (record { heads = set k.heads b (Some v); nexts = set k.nexts v (get_or k.heads b None) }) f (v + 1)
-    chained_more c e = record {
-      from = λ a h. ⊎_elim
-          (λ s. subst (λ x. get_or (set k.heads b (Some v)) x None ≡ last_in f (v + 1) x) (sym s) (get_or-set_same k.heads b (Some v) None (omega arith) ∙ last-here v b e))
-          (λ (s : a ≢ b). get_or-set_other k.heads b a (Some v) None s ∙ (c.from a h ∙ last-there v a (λ t. s (sym t ∙ e))))
-          (cases_eq a b);
-      onward = below_more (λ p. get_or (set k.nexts v (get_or k.heads b None)) p None ≡ last_in f p (f p)) v
-          (λ p h. let apart : p ≢ v = omega arith in get_or-set_other k.nexts v p (get_or k.heads b None) None apart ∙ c.onward p h)
-          (get_or-set_same k.nexts v (get_or k.heads b None) None (omega arith) ∙ (c.from b b-in ∙ ap (last_in f v) (sym e)));
-    }
 
 among-at : (xs : List ℕ) (i : ℕ) → i < length xs → among xs (get_or xs i 0) ≡ true
 among-at [] i h = absurd (omega arith)

@@ -3,7 +3,7 @@ use Rattle.std.proofs.Common.{◌≡◌, ℕ, ◌+◌, ◌<◌, ◌≤◌, Bool,
 use Rattle.std.specs.List.{find}
 use Rattle.std.specs.Option.{option_map, unwrap_or}
 use Rattle.std.proofs.lemmas.Bool.{eq-eqb, ne_eqb, and_from}
-use Rattle.std.proofs.lemmas.List.{at_drop_more, at_drop_all, append-nil, drop_more, ext_get_or, get_or-map, get_or-take, length-map, length-take-le, take-append-drop, take_more, take-take, append_assoc}
+use Rattle.std.proofs.lemmas.List.{at_drop_more, at_drop_all, append-nil, drop_more, ext_get_or, get_or-map, get_or-take, length-map, length-take-le, take-append-drop, take-take}
 use Rattle.source.specs.declared.parts.Standing.{Standing}
 use Rattle.source.specs.declared.parts.Standing.TheVariants.{Absent, Unreadable, There}
 use Rattle.source.specs.declared.parts.FeaturePlace.TheVariants.{Listed}
@@ -21,9 +21,6 @@ front-none : {X : Type 0} (s : Standing X) (i : ℕ) (rest : List ℕ) → ((x :
 front-none Absent i rest h = refl
 front-none Unreadable i rest h = refl
 front-none (There x) i rest h = absurd (h x refl)
-
-front-some : {X : Type 0} (s : Standing X) (i : ℕ) (rest : List ℕ) (x : X) → s ≡ There x → front s i rest ≡ i ∷ rest
-front-some s i rest x e = ap (λ t. front t i rest) e
 
 found-or : (b : Bool) (x : ℕ) (o : Option ℕ) (i : ℕ) → unwrap_or (cond b (Some x) o) i ≡ cond b x (unwrap_or o i)
 found-or true x o i = refl
@@ -85,12 +82,6 @@ module _ (r : Reading) (ls : List ℕ) where
 module _ (r : Reading) (vs : List ℕ) (v : ℕ) (in' : v < length vs) where
   front-step : matched r (drop v vs) ≡ front (feature r (Listed (get_or vs v 0))) (get_or vs v 0) (matched r (drop (v + 1) vs))
   front-step = at_drop_more (matched r) vs v 0 in'
-
-  pub matched-more : (t : FeatureTable) → feature r (Listed (get_or vs v 0)) ≡ There t → take v vs ++ matched r (drop v vs) ≡ matched r vs → take (v + 1) vs ++ matched r (drop (v + 1) vs) ≡ matched r vs
-  matched-more t e inv =
-      ap (λ l. l ++ matched r (drop (v + 1) vs)) (take_more vs v 0 in')
-      ∙ (append_assoc (take v vs) (get_or vs v 0 ∷ []) (matched r (drop (v + 1) vs))
-      ∙ (sym (ap (λ l. take v vs ++ l) (front-step ∙ front-some (feature r (Listed (get_or vs v 0))) (get_or vs v 0) (matched r (drop (v + 1) vs)) t e)) ∙ inv))
 
   pub matched-ends : ((t : FeatureTable) → feature r (Listed (get_or vs v 0)) ≡ There t → ⊥) → take v vs ++ matched r (drop v vs) ≡ matched r vs → take v vs ≡ matched r vs
   matched-ends h inv =

@@ -103,8 +103,3 @@ other-feature ls i xs k (Some j) r e h n =
     n ∙ sym (and_left (eqb (get_or xs k no_substitution).index i) (any (among ls) (lookups_of (get_or xs k no_substitution).alternate)) (ap (λ x. eqb x i) (index-found xs k j (sym e)) ∙ (sym h ∙ n)))
 
 -- what a source tells of tables that are there
-
-pub there-mapped : {X Y : Type 0} (f : X → Y) (s : Standing X) (y : Y) → There y ≡ mapped f s → (x : X) × (s ≡ There x)
-there-mapped f Absent y e = absurd (let z : ◌≡◌ {A = ℕ} 0 1 = cc in omega arith)
-there-mapped f Unreadable y e = absurd (let z : ◌≡◌ {A = ℕ} 0 1 = cc in omega arith)
-there-mapped f (There x) y e = (x, refl)

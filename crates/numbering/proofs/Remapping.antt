@@ -1,7 +1,7 @@
 -- The steps of the numbering of retained indices.
 use Rattle.std.proofs.Common.{◌≡◌, ℕ, ◌+◌, ◌-◌, ◌<◌, ◌≤◌, Bool, true, false, cond, not, ltb, ◌≢◌, List, map, length, get_or, take, drop, set, filter, sym, refl, ap, ◌∙◌, ⊎_elim, arith, below_more}
 use Rattle.std.proofs.lemmas.List.Filters.{length-filter_more}
-use Rattle.std.proofs.lemmas.List.{drop-set-lt, ext_get_or, get_or_default, get_or-map, get_or-set_other, get_or-set_same, get_or-take, length-map, length-take-le, take_all}
+use Rattle.std.proofs.lemmas.List.{drop-set-lt, ext_get_or, get_or_default, get_or-map, get_or-set_other, get_or-set_same, get_or-take, length-map, length-take-le}
 use Rattle.std.proofs.lemmas.Bool.{and_from, and_left, and_parts, both_ways, cases_Bool, cases_order, cond-true, cond-false, le-ltb, lt-ltb, ltb-true}
 use Rattle.numbering.specs.Numbers.{shares, owners, below, number, Settled}
 use Rattle.numbering.specs.Sets.{Ascends, among}
@@ -118,6 +118,3 @@ module _ (rs : List ℕ) (f : ℕ → ℕ) (k : ℕ) (ns : List ℕ) (own : ℕ)
       let size = length-take-le (length rs) ns room in
       ext_get_or 0 (take (length rs) ns) (map (number rs f) rs) (size ∙ sym (length-map rs (number rs f)))
       (λ p l. let inside : p < length rs = omega (arith, size) in get_or-take (length rs) ns p 0 inside ∙ (done.each p (omega arith) ∙ sym (get_or-map (number rs f) rs p 0 0 inside)))
-
-  pub all-owners : own ≡ length (owners rs f)
-  all-owners = done.count ∙ ap (λ l. length (filter (λ x. not (shares rs f x)) l)) (take_all k rs (omega arith))

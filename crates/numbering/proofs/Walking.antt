@@ -1,5 +1,5 @@
 -- The walk over scripts and language systems, and a context that follows it.
-use Rattle.std.proofs.Common.{◌≡◌, ℕ, ◌+◌, ◌<◌, ◌≤◌, min, true, false, cond, ◌||◌, ltb, List, [], ◌∷◌, ◌++◌, length, get_or, drop, Ok, Err, Option, sym, refl, ap, ◌∙◌, subst, arith}
+use Rattle.std.proofs.Common.{◌≡◌, ℕ, ◌+◌, ◌<◌, ◌≤◌, min, true, false, ◌||◌, ltb, List, [], ◌∷◌, ◌++◌, length, get_or, drop, Ok, Err, Option, sym, refl, ap, ◌∙◌, subst, arith}
 use Rattle.std.proofs.lemmas.List.{length_push, at_drop_more}
 use Rattle.std.proofs.lemmas.Bool.{cond_both, cond-true, cond-false}
 use Rattle.keys.specs.declared.pairs.Pair.{Pair}
@@ -10,13 +10,12 @@ use Rattle.source.specs.declared.refusals.Refusal.TheVariants.{TooManyPairs}
 use Rattle.source.specs.Standings.{mapped, listed}
 use Rattle.source.specs.Standings.{counted as tally}
 use Rattle.source.specs.Reading.{LangSysTable, LangSysRecord, ScriptTable, ScriptRecord}
-use Rattle.source.specs.Questions.{lang_sys_head, no_lang_sys, no_script, default_of, lang_sys_records}
+use Rattle.source.specs.Questions.{lang_sys_head, no_lang_sys, no_script}
 use Rattle.numbering.specs.declared.systems.PruneLangSysContext.{PruneLangSysContext}
 use Rattle.numbering.specs.Sets.{among}
 use Rattle.numbering.specs.Systems.{Walk, Step, visit, succeeds, collect, keep_pair, count_script, walk_on, compared, record_step, like_default, names, names_of, walk_records, visit_default, is_empty, walk_script, counted_script, kept_step, script_step, walk_scripts}
-use Rattle.numbering.specs.Context.{Agrees, Marked, counted, visited, with_pair, Goes}
+use Rattle.numbering.specs.Context.{Agrees, Marked, visited, with_pair, Goes}
 use Rattle.numbering.proofs.Looking.{system-there}
-use Rattle.numbering.proofs.Members.{there-same}
 
 module _ {ms : List ℕ} where
   pub agrees-visited : {c : PruneLangSysContext} {w : Walk} (t : LangSysTable) (n : ℕ) → n ≡ length t.indices → Agrees ms c w → Agrees ms (visited n c) (visit t w)
@@ -49,16 +48,6 @@ module _ {ms : List ℕ} where
     pairs = ap (λ l. l ++ (p ∷ [])) a.pairs;
   }
 
-  pub agrees-counted : {c : PruneLangSysContext} {w : Walk} → Agrees ms c w → Agrees ms (counted c) (count_script w)
-  agrees-counted a = record {
-    scripts = ap (λ n. n + 1) a.scripts;
-    sum = a.sum;
-    flags = a.flags;
-    named = a.named;
-    filled = a.filled;
-    pairs = a.pairs;
-  }
-
 -- a language system that is collected
 
 module _ {ms : List ℕ} (m : ℕ → Option ℕ) (d : Standing LangSysTable) (p : Pair) {c c' : PruneLangSysContext} (s : Standing LangSysTable) (l : LangSys) (w : Walk) (e : There l ≡ mapped lang_sys_head s) (yes : ltb (visited l.count c).langsys_feature_count 5000 ≡ true) (unlike : like_default m s d ≡ false) (marked : Marked ms (among (names_of s)) (visited l.count c) c') (a : Agrees ms c w) where
@@ -89,22 +78,6 @@ module _ {ms : List ℕ} (m : ℕ → Option ℕ) (d : Standing LangSysTable) (p
 pub ruleset collected_records = (record-kept, record-full)
 
 -- a script that is walked
-
-pub script-walked : (m : ℕ → Option ℕ) (s : ℕ) (d : Standing LangSysTable) (xs : List LangSysRecord) (w : Walk) → is_empty xs d ≡ false → ltb w.scripts 500 ≡ true → counted_script m s d xs w ≡ walk_script m s d xs w
-script-walked m s d xs w e h =
-    cond-false (is_empty xs d) w (cond (ltb w.scripts 500) (walk_script m s d xs w) w) e ∙ cond-true (ltb w.scripts 500) (walk_script m s d xs w) w h
-
-pub script-there : (s : Standing ScriptTable) (n : ℕ) → There n ≡ mapped (λ t. length t.records) s → (t : ScriptTable) × (s ≡ There t) × (n ≡ length t.records)
-script-there Absent n e = absurd (let z : ◌≡◌ {A = ℕ} 0 1 = cc in omega arith)
-script-there Unreadable n e = absurd (let z : ◌≡◌ {A = ℕ} 0 1 = cc in omega arith)
-script-there (There t) n e = (t, refl, there-same e)
-
--- the step of a script that is there and kept
-pub kept_there : (m : ℕ → Option ℕ) (ts : List ℕ) (s : ℕ) (x : ScriptRecord) (w : Walk) (n : ℕ) → among ts x.tag ≡ true → There n ≡ mapped (λ t. length t.records) x.table → script_step m ts s x w ≡ record { goes_on = true; left = counted_script m s (default_of x.table) (lang_sys_records x.table) w }
-kept_there m ts s x w n k e =
-    let t = script-there x.table n e in
-    cond-true (among ts x.tag) (kept_step m s x.table w) (record { goes_on = true; left = w }) k
-    ∙ (ap (λ y. kept_step m s y w) t.1 ∙ sym (ap (λ y. record { goes_on = true; left = counted_script m s (default_of y) (lang_sys_records y) w }) t.1))
 
 -- one more record, or script
 

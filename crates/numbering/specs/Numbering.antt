@@ -22,7 +22,7 @@ use Rattle.source.specs.Reading.{Reading}
 use Rattle.source.specs.declared.refusals.Refusal.{Refusal}
 use Rattle.source.specs.declared.refusals.Refusal.TheVariants.{TooManyPairs}
 use Rattle.numbering.specs.declared.number.Numbering.{Numbering}
-use Rattle.numbering.specs.declared.number.NotKeptSets.{NotKeptSets as NoKeptSets}
+use Rattle.numbering.specs.declared.sets.NotKeptSets.{NotKeptSets as NoKeptSets}
 use Rattle.numbering.specs.declared.number.Unnumbered.{Unnumbered}
 use Rattle.numbering.specs.declared.number.Unnumbered.TheVariants.{NotKeptSets, Refused}
 use Rattle.numbering.specs.Sets.{Ascends, among, lookup_beside}

@@ -10,7 +10,8 @@ use source::Source;
 // How many buckets there are.
 pub(crate) const BUCKETS: u32 = 239;
 
-// `heads` has the last place of each bucket, and `nexts` has for each place the one before it in its bucket.
+// `heads` has the last place of each bucket, and `nexts` has for each place the one before it in its bucket. Places in
+// fixed tables link the chains, since there is no heap.
 #[derive(Drop)]
 pub(crate) struct Chains {
     pub(crate) heads: [Option<u16>; 239],

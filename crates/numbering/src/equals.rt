@@ -12,7 +12,8 @@ use crate::walk::ScriptWalk;
 use keys::find;
 use source::{LangSysPlace, Source, Standing};
 
-// Indices that ascend, at most 512, each with its earliest match beside it.
+// Indices that ascend, at most 512, each with its earliest match beside it. They are two slices, not one of pairs, since
+// callers of `join_features` lend them so.
 #[derive(Clone, Copy)]
 pub(crate) struct Matches<'a> {
     pub(crate) matched: &'a [u16],

@@ -52,6 +52,14 @@ impl<T: Copy, const N: usize> Filled<T, N> {
         self.len == N
     }
 
+    // The first `len` values of a table.
+    pub(crate) fn front(items: [T; N], len: usize) -> Filled<T, N>
+        requires { len ≤ N }
+        ensures { result ≡ take len items }
+    {
+        Filled { items, len }
+    }
+
     // Puts a value after the others.
     pub(crate) fn push(&mut self, value: T)
         requires { length self.old < N }

@@ -19,5 +19,6 @@ mod walk;
 
 pub use filled::{Filled, Indices, Pairs};
 pub use joins::{Joins, join_features};
-pub use number::{KeptSets, NotKeptSets, Numbering, Unnumbered, number_features, number_kept};
+pub use number::{Numbering, Unnumbered, number_features, number_kept};
 pub use remap::place_in;
+pub use sets::{KeptSets, NotKeptSets};

@@ -1,13 +1,13 @@
 // The numbering: from kept sets to the retained features and their numbers.
-ghost use Rattle.std.specs.Prelude.{◌≡◌, ◌≤◌, map, length, IfOk, MatchResult};
+ghost use Rattle.std.specs.Prelude.{◌≡◌, ◌≤◌, map, length, IfOk};
 ghost use Rattle.numbering.specs.Systems.{code_of};
-ghost use Rattle.numbering.specs.Numbering.{held_pairs, Kept, Answered, TurnedAway, RefusedWith, NumberedOrNot};
+ghost use Rattle.numbering.specs.Numbering.{held_pairs, Answered, TurnedAway, RefusedWith, NumberedOrNot};
 
 use crate::chains::Chains;
 use crate::equals::Matches;
 use crate::filled::{Filled, Indices, Pairs};
 use crate::remap::remap_feature_indices;
-use crate::sets::{IndexSet, are_kept_sets};
+use crate::sets::{IndexSet, KeptSets, NotKeptSets};
 use crate::subset::Subset;
 use crate::systems::PruneLangSysContext;
 use crate::walk::ScriptWalk;
@@ -25,39 +25,6 @@ pub struct Numbering {
     pub numbers: Indices,
     pub pairs: Pairs,
     pub own: usize,
-}
-
-// Kept sets: lookups (at most 1,024), features (at most 512) and script tags (at most 64), which ascend.
-#[derive(Clone, Copy)]
-pub struct KeptSets<'a> {
-    pub lookups: &'a [u16],
-    pub features: &'a [u16],
-    pub scripts: &'a [Tag],
-    ghost kept: { Kept lookups.now features.now scripts.now },
-}
-
-// Sets that do not ascend or are too large.
-#[derive(Clone, Copy, PartialEq, Eq, Debug)]
-pub struct NotKeptSets;
-
-impl<'a> KeptSets<'a> {
-    // Sets that are tested.
-    pub fn new(
-        lookups: &'a [u16],
-        features: &'a [u16],
-        scripts: &'a [Tag],
-    ) -> Result<KeptSets<'a>, NotKeptSets>
-        ensures { MatchResult result (λ s. (s.lookups.now ≡ lookups.now) × (s.features.now ≡ features.now) × (s.scripts.now ≡ scripts.now)) (λ _. Kept lookups.now features.now scripts.now → ⊥) }
-    {
-        if !are_kept_sets(lookups, features, scripts) {
-            return Err(NotKeptSets);
-        }
-        Ok(KeptSets {
-            lookups,
-            features,
-            scripts,
-        })
-    }
 }
 
 // Why there is no numbering: the kept sets do not ascend or are too large, or the call is refused.
@@ -88,6 +55,7 @@ pub fn number_kept<S: Source>(source: &S, sets: &KeptSets<'_>) -> Result<Numberi
     ensures answered { Answered (S.reading source.now) sets.now.lookups.now sets.now.features.now (map code_of sets.now.scripts.now) result }
     ensures few { IfOk result (λ n. length (held_pairs n.pairs) ≤ 2048) }
 {
+    // Each table has its count beside it until the end, since the stages write slices, as `join_features` lends them.
     let mut survivors = [0; 512];
     let mut earliest = [0; 512];
     let subset = Subset {
@@ -114,22 +82,10 @@ pub fn number_kept<S: Source>(source: &S, sets: &KeptSets<'_>) -> Result<Numberi
     context.choose(&earliest[..matched], &mut targets);
     let own = remap_feature_indices(&retained[..count], &targets, &mut numbers);
     Ok(Numbering {
-        survivors: Filled {
-            items: survivors,
-            len: survived,
-        },
-        earliest: Filled {
-            items: earliest,
-            len: matched,
-        },
-        retained: Filled {
-            items: retained,
-            len: count,
-        },
-        numbers: Filled {
-            items: numbers,
-            len: count,
-        },
+        survivors: Filled::front(survivors, survived),
+        earliest: Filled::front(earliest, matched),
+        retained: Filled::front(retained, count),
+        numbers: Filled::front(numbers, count),
         pairs: context.pairs,
         own,
     })

@@ -28,6 +28,7 @@ pub(crate) fn remap_feature_indices(
     ensures rest { drop (length retained.now) numbers.new ≡ drop (length retained.now) numbers.old }
 {
     let mut own = 0;
+    // By index: a turn reads both slices before `k` and writes at `k`, so no iterator over one of them is plainer.
     for k in 0..retained.len() {
         match place_in(&retained[0..k], earliest[k]) {
             Some(q) => numbers[k] = numbers[q],

@@ -1,5 +1,5 @@
 // Sets of indices.
-ghost use Rattle.std.specs.Prelude.{◌≡◌, Decides, MatchOption};
+ghost use Rattle.std.specs.Prelude.{◌≡◌, Decides, MatchOption, MatchResult};
 ghost use Rattle.numbering.specs.Sets.{Ascends, among};
 ghost use Rattle.numbering.specs.Numbering.{Kept};
 
@@ -39,6 +39,19 @@ impl<'a> IndexSet<'a> {
     }
 }
 
+// Kept sets: lookups (at most 1,024), features (at most 512) and script tags (at most 64), which ascend.
+#[derive(Clone, Copy)]
+pub struct KeptSets<'a> {
+    pub lookups: &'a [u16],
+    pub features: &'a [u16],
+    pub scripts: &'a [Tag],
+    ghost kept: { Kept lookups.now features.now scripts.now },
+}
+
+// Sets that do not ascend or are too large.
+#[derive(Clone, Copy, PartialEq, Eq, Debug)]
+pub struct NotKeptSets;
+
 // Whether kept sets ascend and none is over its size.
 pub(crate) fn are_kept_sets(lookups: &[u16], features: &[u16], scripts: &[Tag]) -> bool
     ensures { Decides result (Kept lookups.now features.now scripts.now) }
@@ -49,4 +62,24 @@ pub(crate) fn are_kept_sets(lookups: &[u16], features: &[u16], scripts: &[Tag]) 
         && is_ascending(lookups)
         && is_ascending(features)
         && is_ascending(scripts)
+}
+
+impl<'a> KeptSets<'a> {
+    // Sets that are tested.
+    pub fn new(
+        lookups: &'a [u16],
+        features: &'a [u16],
+        scripts: &'a [Tag],
+    ) -> Result<KeptSets<'a>, NotKeptSets>
+        ensures { MatchResult result (λ s. (s.lookups.now ≡ lookups.now) × (s.features.now ≡ features.now) × (s.scripts.now ≡ scripts.now)) (λ _. Kept lookups.now features.now scripts.now → ⊥) }
+    {
+        if !are_kept_sets(lookups, features, scripts) {
+            return Err(NotKeptSets);
+        }
+        Ok(KeptSets {
+            lookups,
+            features,
+            scripts,
+        })
+    }
 }

@@ -65,7 +65,7 @@ returns-clause-answered g c =
     let many = c.choose.ensures.count ∙ (ap length chose ∙ length-map rs f) in
     let lent = subst (λ xs. take (length xs) tg ≡ map f xs) (sym same) (ap (λ n. take n tg) (sym many) ∙ (c.choose.ensures.list ∙ chose)) in
     let fixed = subst (λ xs. Settled xs f) (sym same) (retained-settled r ls fs kept.features kept.few_features ts) in
-    whole-numbering r ls fs kept.features kept.few_features ts _ c.prune_features-survived.ensures.list settled same
-    (ap (λ n. take n c.remap_feature_indices-own.new.numbers) (sym size) ∙ (c.remap_feature_indices-own.ensures.list f lent fixed ∙ ap (λ xs. map (number xs f) xs) same))
+    whole-numbering r ls fs kept.features kept.few_features ts _ (c.front.ensures ∙ c.prune_features-survived.ensures.list) (c.front-2.ensures ∙ settled) (c.front-3.ensures ∙ same)
+    (c.front-4.ensures ∙ (ap (λ n. take n c.remap_feature_indices-own.new.numbers) (sym size) ∙ (c.remap_feature_indices-own.ensures.list f lent fixed ∙ ap (λ xs. map (number xs f) xs) same)))
     (c.remap_feature_indices-own.ensures.count f lent fixed ∙ ap (λ xs. length (owners xs f)) same)
     walked.0.pairs
