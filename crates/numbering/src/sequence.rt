@@ -23,6 +23,7 @@ pub(crate) trait Sequence {
 fn next_from<Q: Sequence>(q: &Q, from: u16) -> Option<(u16, u16)>
     ensures { MatchOption result (somes (drop from (Q.places q.now)) ≡ []) (λ p. somes (drop from (Q.places q.now)) ≡ p.0 ∷ somes (drop p.1 (Q.places q.now))) }
 {
+    // Tried as `find_map`: its closure doesn't learn that the place after `k` fits, so the proof didn't close.
     let end = q.count();
     for k in from..end {
         if let Some(x) = q.number_at(k) {
@@ -37,6 +38,7 @@ fn next_from<Q: Sequence>(q: &Q, from: u16) -> Option<(u16, u16)>
 pub(crate) fn same_numbers<Q: Sequence>(a: &Q, b: &Q) -> bool
     ensures { result ≡ equal_lists (somes (Q.places a.now)) (somes (Q.places b.now)) }
 {
+    // Two sequences with gaps are walked, the second by the first, so a chain over one of them is no plainer.
     let mut j = 0;
     for i in 0..a.count() {
         if let Some(x) = a.number_at(i) {
@@ -58,6 +60,7 @@ pub(crate) fn mix_numbers<Q: Sequence>(q: &Q, start: u32) -> u32
     requires { start < 65521 }
     ensures { result ≡ mixed start (somes (Q.places q.now)) }
 {
+    // A `fold` would ask inside its closure whether `h` is small, so it is no plainer than the loop.
     let mut h = start;
     for k in 0..q.count() {
         if let Some(x) = q.number_at(k) {

@@ -24,6 +24,7 @@ impl<'a> IndexSet<'a> {
     pub(crate) fn new(items: &'a [u16]) -> Option<IndexSet<'a>>
         ensures { MatchOption result (Ascends items.now → ⊥) (λ s. s.items.now ≡ items.now) }
     {
+        // Tried as `then`: the proof didn't close, since its closure doesn't know what the test told.
         if is_ascending(items) {
             Some(IndexSet { items })
         } else {

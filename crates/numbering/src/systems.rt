@@ -19,7 +19,8 @@ const MAX_SCRIPTS: u16 = 500;
 
 const MAX_LANGSYS_FEATURE_COUNT: u16 = 5000;
 
-// What a walk over scripts has done. A flag stands beside each matched index that is to be retained.
+// What a walk over scripts has done. A flag stands beside each matched index that is to be retained, in a table of fixed
+// size, since there is no heap.
 #[derive(Drop)]
 pub(crate) struct PruneLangSysContext {
     pub(crate) script_count: u16,
@@ -74,7 +75,7 @@ impl PruneLangSysContext {
         }
     }
 
-    // Retains the listed indices of a language system.
+    // Retains the listed indices of a language system. A source answers by place, so this and the walks go over places.
     fn retain_listed<S: Source>(
         &mut self,
         walk: &ScriptWalk<'_, '_, '_, S>,
@@ -129,6 +130,7 @@ impl PruneLangSysContext {
         ensures { (w : Walk) → Agrees walk.now.matches.matched.now self.old w → Goes walk.now.matches.matched.now (record_step (lookup_beside nat_eq walk.now.matches.matched.now walk.now.matches.earliest.now) (lang_sys_of (S.reading walk.now.source.now) (Default script)) (record { script = script; lang_sys = lang_sys }) (lang_sys_of (S.reading walk.now.source.now) (Record script lang_sys)) w) self.new result }
     {
         let at = LangSysPlace::Record { script, lang_sys };
+        // Each of the three standings has an answer of its own, so a combinator is no plainer than the match.
         let langsys = match walk.source.lang_sys(at) {
             Standing::Absent => return Ok(true),
             Standing::Unreadable => return Ok(false),
@@ -198,6 +200,7 @@ impl PruneLangSysContext {
         if !walk.is_kept_script(script) {
             return Ok(true);
         }
+        // As above: three standings, three answers.
         match walk.source.script(script) {
             Standing::Absent => Ok(true),
             Standing::Unreadable => Ok(false),
