@@ -1,14 +1,10 @@
-ghost use Rattle.std.specs.Prelude.{map};
-ghost use Rattle.numbering.specs.Numbering.{Answered};
-ghost use Rattle.numbering.specs.Systems.{code_of};
-
 use crate::choices::{KeptSets, keep};
 use crate::faults::Untold;
 use crate::features::{Account, first_unread};
 use crate::systems::write_pairs;
 use console::{Page, SetWords};
-use numbering::{Numbering, Unnumbered, number_features};
-use source::{Refusal, Source};
+use numbering::number_kept;
+use source::Source;
 use std::alloc::{AllocError, Global};
 
 fn write_sizes(page: &mut Page, sets: &KeptSets) -> Result<(), AllocError> {
@@ -32,24 +28,6 @@ fn write_told<S: Source>(page: &mut Page, account: &Account<'_, S>) -> Result<()
     writeln!(page, "Features retained: {retained}, under {own} numbers")
 }
 
-// The numbering of kept sets.
-fn number_kept<S: Source>(source: &S, sets: &KeptSets) -> Result<Numbering, Refusal>
-    ensures { Answered (S.reading source.now) sets.now.lookups.items sets.now.features.items (map code_of sets.now.scripts.items) result }
-{
-    match number_features(
-        source,
-        sets.lookups.as_slice(),
-        sets.features.as_slice(),
-        sets.scripts.as_slice(),
-    ) {
-        Ok(numbering) => Ok(numbering),
-        Err(why) => match why {
-            Unnumbered::NotKeptSets => unreachable!(),
-            Unnumbered::Refused(refusal) => Err(refusal),
-        },
-    }
-}
-
 // Tells under a heading what becomes of the features of a table, of which three words say what is kept.
 pub fn tell_numbering<'a, S: Source>(
     heap: Global,
@@ -58,7 +36,7 @@ pub fn tell_numbering<'a, S: Source>(
     words: SetWords<'a>,
 ) -> Result<Page, Untold<'a>> {
     let sets = keep(heap, source, words)?;
-    let numbering = number_kept(source, &sets)?;
+    let numbering = number_kept(source, &sets.lent())?;
     let mut page = Page::new(heap);
     page.line(heading)?;
     page.end()?;

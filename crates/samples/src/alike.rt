@@ -6,7 +6,7 @@ ghost use Rattle.samples.specs.Kept.{latn_retained, latn_numbers};
 
 use keys::Tag;
 use rows::{FeatureRow, LangSysRow, Rows, ScriptRow};
-use source::{Kind, Refusal};
+use source::{Kind, LangSys, Refusal};
 
 const LIGA: Tag = Tag { code: 0x6c69_6761 };
 
@@ -19,9 +19,6 @@ const DFLT: Tag = Tag { code: 0x6466_6c74 };
 const ROM: Tag = Tag { code: 0x524f_4d20 };
 
 const TRK: Tag = Tag { code: 0x5452_4b20 };
-
-// No required feature.
-const NONE: u16 = 65535;
 
 const APART_FEATURES: [FeatureRow; 4] = [
     FeatureRow {
@@ -51,19 +48,19 @@ const APART_SYSTEMS: [LangSysRow; 3] = [
         tag: DFLT,
         first: 2,
         count: 1,
-        required: NONE,
+        required: LangSys::NONE_REQUIRED,
     },
     LangSysRow {
         tag: ROM,
         first: 3,
         count: 1,
-        required: NONE,
+        required: LangSys::NONE_REQUIRED,
     },
     LangSysRow {
         tag: TRK,
         first: 4,
         count: 1,
-        required: NONE,
+        required: LangSys::NONE_REQUIRED,
     },
 ];
 
@@ -129,7 +126,7 @@ const ONE_SYSTEM: [LangSysRow; 1] = [LangSysRow {
     tag: DFLT,
     first: 4,
     count: 2,
-    required: NONE,
+    required: LangSys::NONE_REQUIRED,
 }];
 
 const DEFAULT_ONLY: [ScriptRow; 1] = [ScriptRow {

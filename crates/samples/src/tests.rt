@@ -86,14 +86,11 @@ fn varied_font_parts(rt: HostRuntime) -> Result<(), Fail> {
 }
 
 fn params_len(p: Standing<FeatureParams<'_>>) -> Option<usize> {
-    let Standing::There(p) = p else {
-        return None;
-    };
-    match p {
-        FeatureParams::Size(b) => Some(b.len()),
-        FeatureParams::StylisticSet(b) => Some(b.len()),
-        FeatureParams::CharacterVariant(b) => Some(b.len()),
-    }
+    p.there().map(|p| match p {
+        FeatureParams::Size(b)
+        | FeatureParams::StylisticSet(b)
+        | FeatureParams::CharacterVariant(b) => b.len(),
+    })
 }
 
 #[test]
@@ -119,10 +116,9 @@ fn varied_font_params(rt: HostRuntime) -> Result<(), Fail> {
 }
 
 fn refused(bytes: &[u8]) -> Option<u8> {
-    match Table::open(Kind::Gsub, bytes) {
-        Ok(_) => None,
-        Err(e) => Some(e.number()),
-    }
+    Table::open(Kind::Gsub, bytes)
+        .err()
+        .map(|refusal| refusal.number())
 }
 
 #[test]
@@ -146,10 +142,7 @@ const DFLT: Tag = Tag { code: 0x6466_6c74 };
 const LATN: Tag = Tag { code: 0x6c61_746e };
 
 fn numbered<S: Source>(source: &S, lookups: &[u16], features: &[u16]) -> Result<Numbering, Fail> {
-    match number_features(source, lookups, features, &[LATN]) {
-        Ok(n) => Ok(n),
-        Err(_) => Err(Fail::new("refused")),
-    }
+    number_features(source, lookups, features, &[LATN]).map_err(|_| Fail::new("refused"))
 }
 
 fn numbered_as_first<S: Source>(rt: &impl Abort, source: &S) -> Result<(), Fail> {
@@ -209,7 +202,7 @@ fn retained_of(count: u16) -> Result<usize, Fail> {
         tag: DFLT,
         first: 0,
         count,
-        required: 65535,
+        required: LangSys::NONE_REQUIRED,
     }];
     let scripts = [ScriptRow {
         tag: LATN,
@@ -235,10 +228,9 @@ fn first_font_joins(rt: HostRuntime) -> Result<(), Fail> {
     let t = first()?;
     let mut survivors = [9u16; 5];
     let mut earliest = [9u16; 5];
-    let Some(joins) = join_features(&t, &[0, 1], &[0, 1, 2, 3, 4], &mut survivors, &mut earliest)
-    else {
-        return Err(Fail::new("refused"));
-    };
+    let joins = join_features(&t, &[0, 1], &[0, 1, 2, 3, 4], &mut survivors, &mut earliest).ok_or(
+        Fail::new("refused"),
+    )?;
     assert_eq!(rt; joins.survivors, 4);
     assert_eq!(rt; joins.matched, 4);
     assert!(rt; &survivors[0..4] == first_font_survivors().as_slice());
