@@ -228,9 +228,10 @@ fn first_font_joins(rt: HostRuntime) -> Result<(), Fail> {
     let t = first()?;
     let mut survivors = [9u16; 5];
     let mut earliest = [9u16; 5];
-    let joins = join_features(&t, &[0, 1], &[0, 1, 2, 3, 4], &mut survivors, &mut earliest).ok_or(
-        Fail::new("refused"),
-    )?;
+    let Some(joins) = join_features(&t, &[0, 1], &[0, 1, 2, 3, 4], &mut survivors, &mut earliest)
+    else {
+        return Err(Fail::new("refused"));
+    };
     assert_eq!(rt; joins.survivors, 4);
     assert_eq!(rt; joins.matched, 4);
     assert!(rt; &survivors[0..4] == first_font_survivors().as_slice());
