@@ -3,7 +3,7 @@ ghost use Rattle.std.specs.Prelude.{◌≡◌, ◌<◌, length, Decides, MatchOp
 ghost use Rattle.serialize.specs.Objects.{Stands, Absent};
 ghost use Rattle.serialize.specs.Tables.{object_at, open_at, pool_to, hash_of, Entry, Lies, Over, Sound};
 
-use crate::equals::{hash, same_bytes, same_links};
+use crate::equals::hash;
 use crate::tables::{Counts, Link, Packed, Serializer};
 
 impl Packed {
@@ -28,7 +28,7 @@ impl Serializer {
         if !entry.lies(work.len()) {
             return false;
         }
-        same_bytes(&work[head..tail], bytes) && same_links(&self.links[first..last], links)
+        &work[head..tail] == bytes && &self.links[first..last] == links
     }
     // The number of the packed object that is equal to the one open from `start` to `counts`.
     pub(crate) fn find(&self, work: &[u8], start: Counts, counts: Counts, mark: u16) -> Option<u16>

@@ -2,14 +2,14 @@
 // stand at its end and grow down, the newest object first. Links stand so in their table too.
 
 // The bytes of a link's field.
-#[derive(Clone, Copy, Debug)]
+#[derive(Clone, Copy, PartialEq, Eq, Debug)]
 pub enum Width {
     Two,
     Four,
 }
 
 // A field of an object, by its position there, that is to hold the distance to the object with the number `target`.
-#[derive(Clone, Copy)]
+#[derive(Clone, Copy, PartialEq, Eq, Debug)]
 pub struct Link {
     pub position: u32,
     pub target: u16,
