@@ -34,12 +34,11 @@ module _ (p : ℕ) (b w w' : List ℕ) (s : Serializer) (c : Counts) (sound : So
       link_head = refl;
       link_tail = refl;
       entries = refl;
-      hashes = refl;
       frames = refl;
     }
 
     pool : Chain w' s c.objects c.tail c.ltail × (pool_to w' s c.objects ≡ pool_to w s c.objects)
-    pool = chain-kept w w' s s len c.objects c.tail c.ltail sound.base.chain high refl (λ i lt. refl) (λ i lt. refl)
+    pool = chain-kept w w' s s len c.objects c.tail c.ltail sound.base.chain high refl (λ i lt. refl)
 
     base : Base w' s c
     base = let a = sound.base in record {
@@ -76,7 +75,7 @@ module _ (p : ℕ) (b w w' : List ℕ) (s : Serializer) (c : Counts) (sound : So
       record {
         within = within;
         work = is;
-        sound = record { shallow = sound.shallow; frames = sound.frames; entries = sound.entries; hashes = sound.hashes; links = sound.links; base = a.0; stacked = a.1 };
+        sound = record { shallow = sound.shallow; frames = sound.frames; entries = sound.entries; links = sound.links; base = a.0; stacked = a.1 };
         sink = sink-same _ _ _ _ _ _ _ _ a.2 a.3 refl refl;
         kept = a.4;
       }

@@ -46,7 +46,6 @@ module _ (b w w' : List ℕ) (s : Serializer) (c : Counts) (is : w' ≡ paste w 
     link_head = refl;
     link_tail = refl;
     entries = refl;
-    hashes = refl;
     frames = refl;
   }
 
@@ -92,7 +91,7 @@ module _ (b w w' : List ℕ) (s : Serializer) (c : Counts) (is : w' ≡ paste w 
         room = room;
         work = is;
         counts = refl;
-        sound = record { shallow = sound.shallow; frames = sound.frames; entries = sound.entries; hashes = sound.hashes; links = sound.links; base = base; stacked = k.0 };
+        sound = record { shallow = sound.shallow; frames = sound.frames; entries = sound.entries; links = sound.links; base = base; stacked = k.0 };
         sink = sink-same _ _ _ _ _ _ _ _ p.1 k.1 (omega arith) refl;
         kept = kept;
       }

@@ -48,7 +48,7 @@ between-push ls a b l le lt =
     between_is (set ls b l) a (b + 1) ∙ ap (drop a) (take_more_set ls b l lt) ∙ drop-append-le a (take b ls) (l ∷ []) (omega arith) ∙ ap (λ (y : List Link). y ++ l ∷ []) (sym (between_is ls a b))
 
 abbrev pub linked-tables : Serializer → Counts → Link → Serializer
-linked-tables s c l = record { frames = s.frames; packed = s.packed; hashes = s.hashes; links = set s.links c.lhead l }
+linked-tables s c l = record { frames = s.frames; packed = s.packed; links = set s.links c.lhead l }
 
 abbrev pub linked-counts : Counts → Counts
 linked-counts c = record { head = c.head; tail = c.tail; lhead = c.lhead + 1; ltail = c.ltail; objects = c.objects; depth = c.depth }
@@ -65,7 +65,6 @@ module _ (w : List ℕ) (s : Serializer) (c : Counts) (l : Link) (sound : Sound 
     link_head = take-set-le c.lhead s.links c.lhead l (omega arith);
     link_tail = drop-set-lt c.ltail s.links c.lhead l room;
     entries = refl;
-    hashes = refl;
     frames = refl;
   }
 
@@ -112,7 +111,7 @@ module _ (w : List ℕ) (s : Serializer) (c : Counts) (l : Link) (sound : Sound 
         takes = t;
         tables = refl;
         counts = refl;
-        sound = record { shallow = sound.shallow; frames = sound.frames; entries = sound.entries; hashes = sound.hashes; links = length-set s.links c.lhead l ∙ sound.links; base = base; stacked = k.0 };
+        sound = record { shallow = sound.shallow; frames = sound.frames; entries = sound.entries; links = length-set s.links c.lhead l ∙ sound.links; base = base; stacked = k.0 };
         sink = sink-same _ _ _ _ _ _ _ _ p.1 k.1 refl (omega arith);
         kept = kept;
       }

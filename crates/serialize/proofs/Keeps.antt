@@ -1,5 +1,5 @@
 -- What c counts is sound, and means the same, wherever it is kept.
-use Rattle.std.proofs.Common.{◌≡◌, ℕ, zero, suc, ◌+◌, ◌-◌, ◌<◌, ◌≤◌, List, [], ◌∷◌, length, get_or, drop, sym, refl, ap, ◌∙◌, subst, arith}
+use Rattle.std.proofs.Common.{◌≡◌, ℕ, zero, suc, ◌+◌, ◌-◌, ◌<◌, ◌≤◌, List, [], ◌∷◌, length, drop, sym, refl, ap, ◌∙◌, subst, arith}
 use Rattle.serialize.specs.declared.tables.Counts.{Counts}
 use Rattle.serialize.specs.declared.tables.Frame.{Frame}
 use Rattle.serialize.specs.declared.tables.Packed.{Packed}
@@ -22,16 +22,16 @@ module _ (w w' : List ℕ) (s s' : Serializer) (len : length w' ≡ length w) wh
   described-kept h l p a b e f =
       object-same _ _ _ _ (between-high w w' h p.head p.tail a e) (between-high s.links s'.links l p.first p.last b f)
 
-  pub chain-kept : (n h l : ℕ) → Chain w s n h l → drop h w' ≡ drop h w → drop l s'.links ≡ drop l s.links → ((i : ℕ) → i < n → entry_at s' i ≡ entry_at s i) → ((i : ℕ) → i < n → get_or s'.hashes i 0 ≡ get_or s.hashes i 0) → Chain w' s' n h l × (pool_to w' s' n ≡ pool_to w s n)
-  chain-kept zero h l (a, b) e f p q = ((omega arith, b), refl)
-  chain-kept (suc i) h l (a, b, c, d, m, r) e f p q =
+  pub chain-kept : (n h l : ℕ) → Chain w s n h l → drop h w' ≡ drop h w → drop l s'.links ≡ drop l s.links → ((i : ℕ) → i < n → entry_at s' i ≡ entry_at s i) → Chain w' s' n h l × (pool_to w' s' n ≡ pool_to w s n)
+  chain-kept zero h l (a, b) e f p = ((omega arith, b), refl)
+  chain-kept (suc i) h l (a, b, c, d, m, r) e f p =
       let t : entry_at s' i ≡ entry_at s i = p i (omega arith) in
       let x = entry_at s i in
       let eh : drop x.tail w' ≡ drop x.tail w = drop-same w w' h x.tail b e in
       let el : drop x.last s'.links ≡ drop x.last s.links = drop-same s.links s'.links l x.last d f in
-      let ih = chain-kept i x.tail x.last r eh el (λ k lt. p k (omega arith)) (λ k lt. q k (omega arith)) in
+      let ih = chain-kept i x.tail x.last r eh el (λ k lt. p k (omega arith)) in
       let o : object_at w' s' i ≡ object_at w s i = ap (described w' s'.links) t ∙ described-kept h l x (omega arith) (omega arith) e f in
-      let ha : get_or s'.hashes i 0 ≡ hash_of (object_at w' s' i) = q i (omega arith) ∙ m ∙ sym (ap hash_of o) in
+      let ha : (entry_at s' i).hash ≡ hash_of (object_at w' s' i) = ap (λ (y : Packed). y.hash) t ∙ m ∙ sym (ap hash_of o) in
       let th : (entry_at s' i).tail ≡ x.tail = ap (λ (y : Packed). y.tail) t in
       let hh : (entry_at s' i).head ≡ x.head = ap (λ (y : Packed). y.head) t in
       let fh : (entry_at s' i).first ≡ x.first = ap (λ (y : Packed). y.first) t in
@@ -40,7 +40,7 @@ module _ (w w' : List ℕ) (s s' : Serializer) (len : length w' ≡ length w) wh
 
   pub pool-kept : (c : Counts) → Chain w s c.objects c.tail c.ltail → Kept c w s w' s' → Chain w' s' c.objects c.tail c.ltail × (pool_to w' s' c.objects ≡ pool_to w s c.objects)
   pool-kept c r k =
-      chain-kept c.objects c.tail c.ltail r k.tail k.link_tail (λ i lt. getD-same s.packed s'.packed c.objects i no_packed lt k.entries) (λ i lt. getD-same s.hashes s'.hashes c.objects i 0 lt k.hashes)
+      chain-kept c.objects c.tail c.ltail r k.tail k.link_tail (λ i lt. getD-same s.packed s'.packed c.objects i no_packed lt k.entries)
 
   pub base_kept : (c : Counts) → Base w s c → Kept c w s w' s' → Base w' s' c
   base_kept c b k =
@@ -78,7 +78,6 @@ module _ (w w' : List ℕ) (s s' : Serializer) (len : length w' ≡ length w) wh
     link_head = take_same s.links s'.links f.lhead c.lhead o.link_heads k.link_head;
     link_tail = drop-same s.links s'.links c.ltail f.ltail o.link_tails k.link_tail;
     entries = take_same s.packed s'.packed f.objects c.objects o.more k.entries;
-    hashes = take_same s.hashes s'.hashes f.objects c.objects o.more k.hashes;
     frames = take_same s.frames s'.frames f.depth c.depth d k.frames;
   }
 

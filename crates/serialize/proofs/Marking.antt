@@ -19,7 +19,7 @@ use Rattle.serialize.proofs.Packings.{top_of}
 use Rattle.serialize.proofs.Keeps.{sink-same, fields-more, pool-kept, base_kept, stacked-kept}
 
 pub kept_refl : (c : Counts) (w : List ℕ) (s : Serializer) → Kept c w s w s
-kept_refl c w s = record { length_work = refl; head = refl; tail = refl; link_head = refl; link_tail = refl; entries = refl; hashes = refl; frames = refl }
+kept_refl c w s = record { length_work = refl; head = refl; tail = refl; link_head = refl; link_tail = refl; entries = refl; frames = refl }
 
 pub kept_trans : (c : Counts) (w w' w'' : List ℕ) (s s' s'' : Serializer) → Kept c w s w' s' → Kept c w' s' w'' s'' → Kept c w s w'' s''
 kept_trans c w w' w'' s s' s'' a b = record {
@@ -29,7 +29,6 @@ kept_trans c w w' w'' s s' s'' a b = record {
   link_head = b.link_head ∙ a.link_head;
   link_tail = b.link_tail ∙ a.link_tail;
   entries = b.entries ∙ a.entries;
-  hashes = b.hashes ∙ a.hashes;
   frames = b.frames ∙ a.frames;
 }
 
@@ -41,7 +40,6 @@ kept-earlier f c w w' s s' o k = record {
   link_head = take_same s.links s'.links f.lhead c.lhead o.link_heads k.link_head;
   link_tail = drop-same s.links s'.links c.ltail f.ltail o.link_tails k.link_tail;
   entries = take_same s.packed s'.packed f.objects c.objects o.more k.entries;
-  hashes = take_same s.hashes s'.hashes f.objects c.objects o.more k.hashes;
   frames = take_same s.frames s'.frames f.depth c.depth o.depths k.frames;
 }
 
@@ -50,7 +48,7 @@ pub sound-kept : (c later : Counts) (w w' : List ℕ) (s s' : Serializer) → So
 sound-kept c later w w' s s' a b k =
     let p = pool-kept w w' s s' k.length_work c a.base.chain k in
     let t = stacked-kept w w' s s' k.length_work c.depth c a.stacked k in
-    (record { shallow = a.shallow; frames = b.frames; entries = b.entries; hashes = b.hashes; links = b.links; base = base_kept w w' s s' k.length_work c a.base k; stacked = t.0 }, sink-same _ _ _ _ _ _ _ _ p.1 t.1 refl refl)
+    (record { shallow = a.shallow; frames = b.frames; entries = b.entries; links = b.links; base = base_kept w w' s s' k.length_work c a.base k; stacked = t.0 }, sink-same _ _ _ _ _ _ _ _ p.1 t.1 refl refl)
 
 fields-end : (lo : ℕ) (ls : List Link) (m n : ℕ) → Fields lo ls m n → last_end lo ls ≤ m
 fields-end lo [] m n f = f

@@ -16,13 +16,13 @@ use Rattle.serialize.proofs.Keeps.{object-same, sink-same, pool-kept, base_kept,
 abbrev pub fresh : List ℕ → Counts
 fresh w = record { head = 0; tail = end w; lhead = 0; ltail = 4096; objects = 0; depth = 0 }
 
-pub fresh-sound : (w : List ℕ) (s : Serializer) → length s.frames ≡ 8 → length s.packed ≡ 2048 → length s.hashes ≡ 2048 → length s.links ≡ 4096 → Sound w s (fresh w)
-fresh-sound w s a b c d =
+pub fresh-sound : (w : List ℕ) (s : Serializer) → length s.frames ≡ 8 → length s.packed ≡ 2048 → length s.links ≡ 4096 → Sound w s (fresh w)
+fresh-sound w s a b d =
     let base : Base w s (fresh w) = record { heads = omega arith; tails = omega arith; link_heads = omega arith; link_tails = omega arith; few = omega arith; chain = (refl, refl); linked = tt; once = tt } in
-    record { shallow = omega arith; frames = a; entries = b; hashes = c; links = d; base = base; stacked = refl }
+    record { shallow = omega arith; frames = a; entries = b; links = d; base = base; stacked = refl }
 
 abbrev pub framed : Serializer → Counts → Serializer
-framed s c = record { frames = set s.frames c.depth (record { start = c }); packed = s.packed; hashes = s.hashes; links = s.links }
+framed s c = record { frames = set s.frames c.depth (record { start = c }); packed = s.packed; links = s.links }
 
 abbrev pub deeper : Counts → Counts
 deeper c = record { head = c.head; tail = c.tail; lhead = c.lhead; ltail = c.ltail; objects = c.objects; depth = c.depth + 1 }
@@ -34,7 +34,7 @@ module _ (w : List ℕ) (s : Serializer) (c : Counts) (sound : Sound w s c) wher
 
     kept : Kept c w s w s'
     unfolding s'
-    kept = record { length_work = refl; head = refl; tail = refl; link_head = refl; link_tail = refl; entries = refl; hashes = refl; frames = take-set-le c.depth s.frames c.depth (record { start = c }) (omega arith) }
+    kept = record { length_work = refl; head = refl; tail = refl; link_head = refl; link_tail = refl; entries = refl; frames = take-set-le c.depth s.frames c.depth (record { start = c }) (omega arith) }
 
     start : start_at s' c.depth ≡ c
     unfolding s'
@@ -79,16 +79,16 @@ module _ (w : List ℕ) (s : Serializer) (c : Counts) (sound : Sound w s c) wher
           tables = refl;
           counts = refl;
           level = e;
-          sound = record { shallow = omega arith; frames = length-set s.frames c.depth (record { start = c }) ∙ sound.frames; entries = sound.entries; hashes = sound.hashes; links = sound.links; base = deep b; stacked = subst (λ d. Stacked w s' d (deeper c)) n stacked.0 };
+          sound = record { shallow = omega arith; frames = length-set s.frames c.depth (record { start = c }) ∙ sound.frames; entries = sound.entries; links = sound.links; base = deep b; stacked = subst (λ d. Stacked w s' d (deeper c)) n stacked.0 };
           sink = sink-same _ _ _ _ _ _ _ _ p.1 (ap (λ d. stack_of w s' d (deeper c)) (sym n) ∙ stacked.1) refl refl;
           start = start;
           kept = kept;
         }
 
     -- the frame as it was recorded
-    pub pushes-begun : (f : Frame) (t : Token) → f ≡ record { start = c } → t.level ≡ c.depth + 1 → Pushes w s (record { frames = set s.frames c.depth f; packed = s.packed; hashes = s.hashes; links = s.links }) c (deeper c) t
+    pub pushes-begun : (f : Frame) (t : Token) → f ≡ record { start = c } → t.level ≡ c.depth + 1 → Pushes w s (record { frames = set s.frames c.depth f; packed = s.packed; links = s.links }) c (deeper c) t
     pushes-begun f t begun e =
-        subst (λ (g : Frame). Pushes w s (record { frames = set s.frames c.depth g; packed = s.packed; hashes = s.hashes; links = s.links }) c (deeper c) t) (sym begun) (pushes t e)
+        subst (λ (g : Frame). Pushes w s (record { frames = set s.frames c.depth g; packed = s.packed; links = s.links }) c (deeper c) t) (sym begun) (pushes t e)
 
   pub pool-drop : (m n : ℕ) → m ≤ n → pool_to w s m ≡ drop (n - m) (pool_to w s n)
   pool-drop m zero le = let e : m ≡ 0 = omega arith in rw e refl
@@ -105,7 +105,7 @@ module _ (w : List ℕ) (s : Serializer) (c : Counts) (sound : Sound w s c) wher
   below (suc d) (e, o, b, r) lt le =
       let z : d ≡ suc d - 1 = omega arith in
       let p = depth_is w w s s refl d (start_at s d) r in
-      let sd : Sound w s (start_at s d) = record { shallow = omega arith; frames = sound.frames; entries = sound.entries; hashes = sound.hashes; links = sound.links; base = b; stacked = subst (λ k. Stacked w s k (start_at s d)) (sym p) r } in
+      let sd : Sound w s (start_at s d) = record { shallow = omega arith; frames = sound.frames; entries = sound.entries; links = sound.links; base = b; stacked = subst (λ k. Stacked w s k (start_at s d)) (sym p) r } in
       subst (λ k. Sound w s (start_at s k) × (stack_of w s k (start_at s k) ≡ drop 1 (stack_of w s (suc d) c)) × ((start_at s k).objects ≤ c.objects) × ((start_at s k).depth ≡ k)) z (sd, refl, o.more, p)
 
   pub discards : (c' : Counts) (level : ℕ) → 0 < level → level ≡ c.depth → c' ≡ start_at s (level - 1) → Discards w s c c'

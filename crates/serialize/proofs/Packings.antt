@@ -89,12 +89,12 @@ module _ (w : List ℕ) (s : Serializer) where
           once = sound.base.once;
         } in
         record {
-          sound = record { shallow = omega (arith, h.depth, sound.shallow); frames = sound.frames; entries = sound.entries; hashes = sound.hashes; links = sound.links; base = b; stacked = up.0 };
+          sound = record { shallow = omega (arith, h.depth, sound.shallow); frames = sound.frames; entries = sound.entries; links = sound.links; base = b; stacked = up.0 };
           stands = st';
           sink = inl (st', sink-same _ _ _ _ _ _ _ _ refl (up.1 ∙ sym rest-is) (omega (arith, lb, sound.base.heads, h.opened.heads)) (omega (arith, ll, sound.base.link_heads, h.opened.link_heads)));
           before = subst (λ (g : Counts). Before g (under f c.tail c.ltail c.objects)) (sym h.frame) (record { heads = omega arith; tails = h.opened.tails; link_heads = omega arith; link_tails = h.opened.link_tails; more = h.opened.more; depths = omega arith });
           same = subst (λ (g : Counts). SameOpen g (under f c.tail c.ltail c.objects)) (sym h.frame) (refl, refl, refl);
-          kept = record { length_work = refl; head = refl; tail = refl; link_head = refl; link_tail = refl; entries = refl; hashes = refl; frames = refl };
+          kept = record { length_work = refl; head = refl; tail = refl; link_head = refl; link_tail = refl; entries = refl; frames = refl };
         }
 
 pub packs-shared-to : (w : List ℕ) (s : Serializer) (c f c' : Counts) (k : ℕ) → Sound w s c → Top w s c f → Stands (open_at w s f c) (pool_to w s c.objects) k → c' ≡ under f c.tail c.ltail c.objects → Packs w w s s c c' k
@@ -124,12 +124,12 @@ module _ {X : Type 0} (xs xs' : List X) (a b t : ℕ) (ab : a ≤ b) (bt : b ≤
       let e : t - (b - a) + (b - a) ≡ t = omega arith in
       subst (λ k. between (t - (b - a)) k xs' ≡ between a b xs) e (ap (between (t - (b - a)) (t - (b - a) + (b - a))) is ∙ between-paste xs (t - (b - a)) (drop a xs) (b - a) fits long)
 
-abbrev pub entry-for : Counts → Counts → Packed
-entry-for f c = record { head = c.tail - (c.head - f.head); tail = c.tail; first = c.ltail - (c.lhead - f.lhead); last = c.ltail }
+abbrev pub entry-for : Counts → Counts → ℕ → Packed
+entry-for f c mark = record { head = c.tail - (c.head - f.head); tail = c.tail; first = c.ltail - (c.lhead - f.lhead); last = c.ltail; hash = mark }
 
 -- the tables and the counts afterwards
 abbrev pub settled : Serializer → Counts → Counts → ℕ → List Link → Serializer
-settled s f c mark ls = record { frames = s.frames; packed = set s.packed c.objects (entry-for f c); hashes = set s.hashes c.objects mark; links = ls }
+settled s f c mark ls = record { frames = s.frames; packed = set s.packed c.objects (entry-for f c mark); links = ls }
 
 abbrev pub packed-counts : Counts → Counts → Counts
 packed-counts f c = under f (c.tail - (c.head - f.head)) (c.ltail - (c.lhead - f.lhead)) (c.objects + 1)
@@ -147,14 +147,11 @@ module _ (w w' : List ℕ) (s : Serializer) (ls : List Link) (c f : Counts) (mar
   len : length w' ≡ length w
   len = moved_length w w' f.head c.head c.tail h.opened.heads sound.base.heads bound wis
 
-  entry_new : entry_at s' c.objects ≡ entry-for f c
-  entry_new = get_or-set_same s.packed c.objects (entry-for f c) no_packed (omega (arith, sound.entries))
+  entry_new : entry_at s' c.objects ≡ entry-for f c mark
+  entry_new = get_or-set_same s.packed c.objects (entry-for f c mark) no_packed (omega (arith, sound.entries))
 
   entry_old : (i : ℕ) → i < c.objects → entry_at s' i ≡ entry_at s i
-  entry_old i lt = let ne : i ≢ c.objects = omega arith in get_or-set_other s.packed c.objects i (entry-for f c) no_packed ne
-
-  hash-old : (i : ℕ) → i < c.objects → get_or s'.hashes i 0 ≡ get_or s.hashes i 0
-  hash-old i lt = let ne : i ≢ c.objects = omega arith in get_or-set_other s.hashes c.objects i mark 0 ne
+  entry_old i lt = let ne : i ≢ c.objects = omega arith in get_or-set_other s.packed c.objects i (entry-for f c mark) no_packed ne
 
   high : drop c.tail w' ≡ drop c.tail w
   high = moved-high w w' f.head c.head c.tail h.opened.heads sound.base.heads bound wis
@@ -163,7 +160,7 @@ module _ (w w' : List ℕ) (s : Serializer) (ls : List Link) (c f : Counts) (mar
   lhigh = moved-high s.links ls f.lhead c.lhead c.ltail h.opened.link_heads sound.base.link_heads lbound lis
 
   old : Chain w' s' c.objects c.tail c.ltail × (pool_to w' s' c.objects ≡ pool_to w s c.objects)
-  old = chain-kept w w' s s' len c.objects c.tail c.ltail sound.base.chain high lhigh entry_old hash-old
+  old = chain-kept w w' s s' len c.objects c.tail c.ltail sound.base.chain high lhigh entry_old
 
   object-new : object_at w' s' c.objects ≡ open_at w s f c
   object-new =
@@ -175,8 +172,7 @@ module _ (w w' : List ℕ) (s : Serializer) (ls : List Link) (c f : Counts) (mar
 
   chain-new : Chain w' s' (suc c.objects) (c.tail - (c.head - f.head)) (c.ltail - (c.lhead - f.lhead))
   chain-new =
-      let m : get_or s'.hashes c.objects 0 ≡ mark = get_or-set_same s.hashes c.objects mark 0 (omega (arith, sound.hashes)) in
-      let hm : get_or s'.hashes c.objects 0 ≡ hash_of (object_at w' s' c.objects) = m ∙ hashed ∙ sym (ap hash_of object-new) in
+      let hm : (entry_at s' c.objects).hash ≡ hash_of (object_at w' s' c.objects) = ap (λ (y : Packed). y.hash) entry_new ∙ hashed ∙ sym (ap hash_of object-new) in
       let eh : (entry_at s' c.objects).head ≡ c.tail - (c.head - f.head) = ap (λ (y : Packed). y.head) entry_new in
       let et : (entry_at s' c.objects).tail ≡ c.tail = ap (λ (y : Packed). y.tail) entry_new in
       let ef : (entry_at s' c.objects).first ≡ c.ltail - (c.lhead - f.lhead) = ap (λ (y : Packed). y.first) entry_new in
@@ -190,8 +186,7 @@ module _ (w w' : List ℕ) (s : Serializer) (ls : List Link) (c f : Counts) (mar
     tail = drop-same w w' c.tail f.tail h.opened.tails high;
     link_head = moved-low s.links ls f.lhead c.lhead c.ltail h.opened.link_heads sound.base.link_heads lbound lis;
     link_tail = drop-same s.links ls c.ltail f.ltail h.opened.link_tails lhigh;
-    entries = take-set-le f.objects s.packed c.objects (entry-for f c) h.opened.more;
-    hashes = take-set-le f.objects s.hashes c.objects mark h.opened.more;
+    entries = take-set-le f.objects s.packed c.objects (entry-for f c mark) h.opened.more;
     frames = refl;
   }
 
@@ -222,7 +217,7 @@ module _ (w w' : List ℕ) (s : Serializer) (ls : List Link) (c f : Counts) (mar
       let lp = length-pool w s c.objects in
       let st : Stands (open_at w s f c) (open_at w s f c ∷ pool_to w s c.objects) c.objects = let z : suc (length (pool_to w s c.objects)) - suc c.objects ≡ 0 = omega arith in (omega arith, ap (λ i. get_or (open_at w s f c ∷ pool_to w s c.objects) i none) z) in
       record {
-        sound = record { shallow = omega (arith, h.depth, sound.shallow); frames = sound.frames; entries = length-set s.packed c.objects (entry-for f c) ∙ sound.entries; hashes = length-set s.hashes c.objects mark ∙ sound.hashes; links = moved_length s.links ls f.lhead c.lhead c.ltail h.opened.link_heads sound.base.link_heads lbound lis ∙ sound.links; base = base; stacked = up.0 };
+        sound = record { shallow = omega (arith, h.depth, sound.shallow); frames = sound.frames; entries = length-set s.packed c.objects (entry-for f c mark) ∙ sound.entries; links = moved_length s.links ls f.lhead c.lhead c.ltail h.opened.link_heads sound.base.link_heads lbound lis ∙ sound.links; base = base; stacked = up.0 };
         stands = subst (λ (y : List Object). Stands (top (sink_of w s c)) y c.objects) (sym pool) (subst (λ (x : Object). Stands x (open_at w s f c ∷ pool_to w s c.objects) c.objects) (sym tis) st);
         sink = inr (subst (λ (x : Object). Absent x (pool_to w s c.objects)) (sym tis) new, sym lp, sink-same _ _ _ _ _ _ _ _ (pool ∙ ap (λ (x : Object). x ∷ pool_to w s c.objects) (sym tis)) (up.1 ∙ k.1 ∙ sym (rest-is w s c f sound h)) (omega (arith, sound.base.heads, h.opened.heads)) (omega (arith, sound.base.link_heads, h.opened.link_heads)));
         before = subst (λ (g : Counts). Before g (packed-counts f c)) (sym h.frame) (record { heads = omega arith; tails = omega (arith, h.opened.tails); link_heads = omega arith; link_tails = omega (arith, h.opened.link_tails); more = omega (arith, h.opened.more); depths = omega arith });

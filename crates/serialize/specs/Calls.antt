@@ -64,7 +64,7 @@ abbrev pub opened : Sink → Sink
 opened k = record { pool = k.pool; stack = none ∷ k.stack; free = k.free; spare = k.spare }
 
 pub record Pushes (w : List ℕ) (s s' : Serializer) (c c' : Counts) (t : Token) : Type 0 where
-  pub tables : s' ≡ record { frames = slice_set s.frames c.depth (record { start = c }); packed = s.packed; hashes = s.hashes; links = s.links }
+  pub tables : s' ≡ record { frames = slice_set s.frames c.depth (record { start = c }); packed = s.packed; links = s.links }
   pub counts : c' ≡ record { head = c.head; tail = c.tail; lhead = c.lhead; ltail = c.ltail; objects = c.objects; depth = c.depth + 1 }
   pub level : t.level ≡ c'.depth
   pub sound : Sound w s' c'
@@ -124,7 +124,7 @@ Takes s c l = (0 < c.depth) × Fields 0 (between (start_at s (c.depth - 1)).lhea
 pub record Links (l : Link) (w : List ℕ) (s s' : Serializer) (c c' : Counts) : Type 0 where
   pub room : c.lhead < c.ltail
   pub takes : Takes s c l
-  pub tables : s' ≡ record { frames = s.frames; packed = s.packed; hashes = s.hashes; links = slice_set s.links c.lhead l }
+  pub tables : s' ≡ record { frames = s.frames; packed = s.packed; links = slice_set s.links c.lhead l }
   pub counts : c' ≡ record { head = c.head; tail = c.tail; lhead = c.lhead + 1; ltail = c.ltail; objects = c.objects; depth = c.depth }
   pub sound : Sound w s' c'
   pub sink : sink_of w s' c' ≡ linked l (sink_of w s c)

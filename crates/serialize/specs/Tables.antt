@@ -16,7 +16,7 @@
 --   Over f c n       the counts c lie in a buffer of n bytes and in the tables, and reach no less far than f
 --   Lies e n         the entry e lies in a buffer of n bytes and in the table of links
 --   Kept c w s w' s' what c counts is the same in both
-use Rattle.std.specs.Prelude.{◌≡◌, ℕ, zero, suc, ◌+◌, ◌-◌, ◌*◌, ◌%◌, ◌≤◌, min, List, [], ◌∷◌, length, get_or, take, drop, fold, slice_index, slice_index_or}
+use Rattle.std.specs.Prelude.{◌≡◌, ℕ, zero, suc, ◌+◌, ◌-◌, ◌*◌, ◌%◌, ◌≤◌, min, List, [], ◌∷◌, length, get_or, take, drop, fold, slice_index_or}
 use Rattle.std.specs.List.{between}
 use Rattle.serialize.specs.declared.tables.Link.{Link}
 use Rattle.serialize.specs.declared.tables.Counts.{Counts}
@@ -34,7 +34,7 @@ abbrev pub no_counts : Counts
 no_counts = record { head = 0; tail = 0; lhead = 0; ltail = 0; objects = 0; depth = 0 }
 
 abbrev pub no_packed : Packed
-no_packed = record { head = 0; tail = 0; first = 0; last = 0 }
+no_packed = record { head = 0; tail = 0; first = 0; last = 0; hash = 0 }
 
 abbrev pub entry_at : Serializer → ℕ → Packed
 entry_at s i = slice_index_or s.packed i no_packed
@@ -70,7 +70,7 @@ sink_of w s c = record { pool = pool_to w s c.objects; stack = stack_of w s c.de
 
 abbrev pub Chain : List ℕ → Serializer → ℕ → ℕ → ℕ → Type 0
 Chain w s zero h l = (h ≡ end w) × (l ≡ 4096)
-Chain w s (suc i) h l = ((entry_at s i).head ≡ h) × (h ≤ (entry_at s i).tail) × ((entry_at s i).first ≡ l) × (l ≤ (entry_at s i).last) × (slice_index s.hashes i ≡ hash_of (object_at w s i)) × Chain w s i (entry_at s i).tail (entry_at s i).last
+Chain w s (suc i) h l = ((entry_at s i).head ≡ h) × (h ≤ (entry_at s i).tail) × ((entry_at s i).first ≡ l) × (l ≤ (entry_at s i).last) × ((entry_at s i).hash ≡ hash_of (object_at w s i)) × Chain w s i (entry_at s i).tail (entry_at s i).last
 
 pub record Base (w : List ℕ) (s : Serializer) (c : Counts) : Type 0 where
   pub heads : c.head ≤ c.tail
@@ -98,7 +98,6 @@ pub record Sound (w : List ℕ) (s : Serializer) (c : Counts) : Type 0 where
   pub shallow : c.depth ≤ 8
   pub frames : length s.frames ≡ 8
   pub entries : length s.packed ≡ 2048
-  pub hashes : length s.hashes ≡ 2048
   pub links : length s.links ≡ 4096
   pub base : Base w s c
   pub stacked : Stacked w s c.depth c
@@ -110,7 +109,6 @@ pub record Kept (c : Counts) (w : List ℕ) (s : Serializer) (w' : List ℕ) (s'
   pub link_head : take c.lhead s'.links ≡ take c.lhead s.links
   pub link_tail : drop c.ltail s'.links ≡ drop c.ltail s.links
   pub entries : take c.objects s'.packed ≡ take c.objects s.packed
-  pub hashes : take c.objects s'.hashes ≡ take c.objects s.hashes
   pub frames : take c.depth s'.frames ≡ take c.depth s.frames
 
 -- Counts that lie in a buffer of n bytes and in the tables, past those at an object's opening.
@@ -138,4 +136,4 @@ pub record Entry (w : List ℕ) (s : Serializer) (h l i : ℕ) : Type 0 where
   pub link_low : l ≤ (entry_at s i).first
   pub link_size : (entry_at s i).first ≤ (entry_at s i).last
   pub link_high : (entry_at s i).last ≤ 4096
-  pub hashed : get_or s.hashes i 0 ≡ hash_of (object_at w s i)
+  pub hashed : (entry_at s i).hash ≡ hash_of (object_at w s i)

@@ -1,25 +1,20 @@
-// Why a call of the sink is refused.
+// Why a call of the sink is refused, with the number under which the fault is known.
 ghost use Rattle.std.specs.Prelude.{◌≡◌};
 ghost use Rattle.serialize.specs.Faults.{code};
 
 #[derive(Clone, Copy, PartialEq, Eq, Debug)]
 pub enum Fault {
-    Work,
-    Limit,
-    Offset,
-    Out,
+    Work = 7,
+    Limit = 8,
+    Offset = 9,
+    Out = 10,
 }
 
 impl Fault {
-    // The number under which the fault is known.
+    // The number of the fault.
     pub fn number(self) -> u8
         ensures { result ≡ code self }
     {
-        match self {
-            Fault::Work => 7,
-            Fault::Limit => 8,
-            Fault::Offset => 9,
-            Fault::Out => 10,
-        }
+        self as u8
     }
 }

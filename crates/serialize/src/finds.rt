@@ -40,7 +40,7 @@ impl Serializer {
         let bytes = &work[head..end];
         let links = &self.links[first..last];
         for i in 0..counts.objects {
-            if self.hashes[i as usize] == mark && self.equals(work, i as usize, bytes, links) {
+            if self.packed[i as usize].hash == mark && self.equals(work, i as usize, bytes, links) {
                 return Some(i);
             }
         }

@@ -42,6 +42,7 @@ impl Serializer {
             tail: 0,
             first: 0,
             last: 0,
+            hash: 0,
         };
         let link = Link {
             position: 0,
@@ -51,7 +52,6 @@ impl Serializer {
         Serializer {
             frames: [Frame { start }; 8],
             packed: [packed; 2048],
-            hashes: [0; 2048],
             links: [link; 4096],
         }
     }

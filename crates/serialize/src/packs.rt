@@ -32,7 +32,7 @@ impl Serializer {
         requires over { Over start counts (length work.old) }
         requires room { counts.objects < 2048 }
         ensures work { work.new ≡ paste work.old (counts.tail - (counts.head - start.head)) (drop start.head work.old) (counts.head - start.head) }
-        ensures tables { self.new ≡ record { frames = self.old.frames; packed = slice_set self.old.packed counts.objects (record { head = counts.tail - (counts.head - start.head); tail = counts.tail; first = counts.ltail - (counts.lhead - start.lhead); last = counts.ltail }); hashes = slice_set self.old.hashes counts.objects mark; links = paste self.old.links (counts.ltail - (counts.lhead - start.lhead)) (drop start.lhead self.old.links) (counts.lhead - start.lhead) } }
+        ensures tables { self.new ≡ record { frames = self.old.frames; packed = slice_set self.old.packed counts.objects (record { head = counts.tail - (counts.head - start.head); tail = counts.tail; first = counts.ltail - (counts.lhead - start.lhead); last = counts.ltail; hash = mark }); links = paste self.old.links (counts.ltail - (counts.lhead - start.lhead)) (drop start.lhead self.old.links) (counts.lhead - start.lhead) } }
         ensures counts { result ≡ record { head = start.head; tail = counts.tail - (counts.head - start.head); lhead = start.lhead; ltail = counts.ltail - (counts.lhead - start.lhead); objects = counts.objects + 1; depth = start.depth } }
     {
         let tail = counts.tail - (counts.head - start.head);
@@ -47,8 +47,8 @@ impl Serializer {
             tail: counts.tail,
             first: ltail,
             last: counts.ltail,
+            hash: mark,
         };
-        self.hashes[at] = mark;
         Counts {
             head: start.head,
             tail,

@@ -33,13 +33,14 @@ pub struct Frame {
     pub(crate) start: Counts,
 }
 
-// A packed object: where its bytes and its links stand.
+// A packed object: where its bytes and its links stand, and its hash.
 #[derive(Clone, Copy)]
 pub struct Packed {
     pub(crate) head: u32,
     pub(crate) tail: u32,
     pub(crate) first: u16,
     pub(crate) last: u16,
+    pub(crate) hash: u16,
 }
 
 // The tables of a sink.
@@ -47,6 +48,5 @@ pub struct Packed {
 pub struct Serializer {
     pub(crate) frames: [Frame; 8],
     pub(crate) packed: [Packed; 2048],
-    pub(crate) hashes: [u16; 2048],
     pub(crate) links: [Link; 4096],
 }

@@ -42,7 +42,10 @@ fn show(rt: &HostRuntime) -> Result<(), Halt> {
     println!(rt; "packed de ad as object {gone} in an object that was discarded: both are gone")?;
     let (root, refused) = pack_root(&mut tables, &mut work, &mut counts, [cafe, three], 9)?;
     match refused {
-        Some(fault) => println!(rt; "refused a record that leads to object 9, by {fault}")?,
+        Some(fault) => {
+            let number = fault.number();
+            println!(rt; "refused a record that leads to object 9, by {number}")?
+        }
         None => println!(rt; "took a record that leads to object 9")?,
     }
     println!(rt; "packed the root as object {root}")?;

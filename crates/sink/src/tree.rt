@@ -43,31 +43,28 @@ pub(crate) fn add_record(
     Ok(())
 }
 
-// Adds a record as above, and answers the number of the refusal, if it is refused.
+// Adds a record as above, and answers the refusal, if it is refused.
 pub(crate) fn try_record(
     tables: &mut Serializer,
     work: &mut [u8],
     counts: &mut Counts,
     value: u16,
     target: u16,
-) -> Option<u8>
+) -> Option<Fault>
     ensures { Sound work.old tables.old counts.old → Grown work.old work.new tables.old tables.new counts.old counts.new }
 {
-    match add_record(tables, work, counts, value, target) {
-        Ok(()) => None,
-        Err(fault) => Some(fault.number()),
-    }
+    add_record(tables, work, counts, value, target).err()
 }
 
 // Adds a record for each kid to the top object, the second with four bytes for its offset, and tries one more between
-// them. Answers the number of that one's refusal.
+// them. Answers that one's refusal.
 pub(crate) fn fill_root(
     tables: &mut Serializer,
     work: &mut [u8],
     counts: &mut Counts,
     kids: [u16; 2],
     odd: u16,
-) -> Result<Option<u8>, Fault>
+) -> Result<Option<Fault>, Fault>
     ensures { Sound work.old tables.old counts.old → Grown work.old work.new tables.old tables.new counts.old counts.new }
 {
     let [first, second] = kids;
@@ -78,14 +75,14 @@ pub(crate) fn fill_root(
     Ok(refused)
 }
 
-// Packs an object with records that lead to the kids. Answers its number, and that of the refusal.
+// Packs an object with records that lead to the kids. Answers its number, and the refusal.
 pub(crate) fn pack_root(
     tables: &mut Serializer,
     work: &mut [u8],
     counts: &mut Counts,
     kids: [u16; 2],
     odd: u16,
-) -> Result<(u16, Option<u8>), Fault>
+) -> Result<(u16, Option<Fault>), Fault>
     ensures { Sound work.old tables.old counts.old → MatchResult result (λ _. Rooted work.old work.new tables.old tables.new counts.old counts.new) (λ _. TakenBack work.old work.new tables.old tables.new counts.old counts.new) }
 {
     let token = tables.push(counts)?;
