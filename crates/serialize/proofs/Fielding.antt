@@ -9,7 +9,7 @@ use Rattle.serialize.specs.declared.tables.Link.{Link}
 use Rattle.serialize.specs.declared.tables.Width.{Width}
 use Rattle.serialize.specs.declared.tables.Width.TheVariants.{Two, Four}
 use Rattle.std.proofs.lemmas.Bool.{false≢true}
-use Rattle.serialize.specs.declared.tables.Serializer.{Serializer}
+use Rattle.serialize.specs.declared.tables.Tables.{Tables}
 use Rattle.serialize.specs.Objects.{Object, width_of, last_end, Fields}
 use Rattle.serialize.specs.Tables.{start_at, open_at, stack_of, Base, Opened, Stacked, Sound, Kept}
 use Rattle.serialize.specs.Calls.{on_top, joined, Takes, Links}
@@ -47,14 +47,14 @@ between-push ls a b l le lt =
     let e : length (take b ls) ≡ b = length-take-le b ls (omega arith) in
     between_is (set ls b l) a (b + 1) ∙ ap (drop a) (take_more_set ls b l lt) ∙ drop-append-le a (take b ls) (l ∷ []) (omega arith) ∙ ap (λ (y : List Link). y ++ l ∷ []) (sym (between_is ls a b))
 
-abbrev pub linked-tables : Serializer → Counts → Link → Serializer
+abbrev pub linked-tables : Tables → Counts → Link → Tables
 linked-tables s c l = record { frames = s.frames; packed = s.packed; links = set s.links c.lhead l }
 
 abbrev pub linked-counts : Counts → Counts
 linked-counts c = record { head = c.head; tail = c.tail; lhead = c.lhead + 1; ltail = c.ltail; objects = c.objects; depth = c.depth }
 
-module _ (w : List ℕ) (s : Serializer) (c : Counts) (l : Link) (sound : Sound w s c) (room : c.lhead < c.ltail) where
-  abbrev s' : Serializer
+module _ (w : List ℕ) (s : Tables) (c : Counts) (l : Link) (sound : Sound w s c) (room : c.lhead < c.ltail) where
+  abbrev s' : Tables
   s' = linked-tables s c l
 
   kept : Kept c w s w s'
@@ -121,7 +121,7 @@ width_some Two = omega arith
 width_some Four = omega arith
 
 -- whether the top object takes a link
-module _ (w : List ℕ) (s : Serializer) (c : Counts) (l : Link) (sound : Sound w s c) where
+module _ (w : List ℕ) (s : Tables) (c : Counts) (l : Link) (sound : Sound w s c) where
   abbrev f : Counts
   f = start_at s (c.depth - 1)
 

@@ -8,7 +8,7 @@ use Rattle.serialize.specs.declared.tables.Width.{Width}
 use Rattle.serialize.specs.declared.tables.Width.TheVariants.{Two, Four}
 use Rattle.serialize.specs.declared.tables.Counts.{Counts}
 use Rattle.serialize.specs.declared.tables.Link.{Link}
-use Rattle.serialize.specs.declared.tables.Serializer.{Serializer}
+use Rattle.serialize.specs.declared.tables.Tables.{Tables}
 use Rattle.serialize.specs.Objects.{Object, width_of, size, from, number, Fields, Linked}
 use Rattle.serialize.specs.Tables.{end, entry_at, object_at, pool_to, Chain, Entry, Lies, Sound}
 use Rattle.serialize.specs.Laying.{field, put, place, distance, patched, laid, Within, Short, AllShort}
@@ -26,7 +26,7 @@ pub width_small : (v : Width) → (0 < width_of v) × (width_of v ≤ 4)
 width_small Two = (omega arith, omega arith)
 width_small Four = (omega arith, omega arith)
 
-module _ (w : List ℕ) (s : Serializer) where
+module _ (w : List ℕ) (s : Tables) where
   -- an entry's place tells how much is older
   pub heads : (n h l k : ℕ) → Chain w s n h l → h + size (pool_to w s n) ≡ end w
   heads zero h l k (a, b) = omega arith
@@ -103,7 +103,7 @@ module _ (q : List Object) (ls : List Link) (j : ℕ) (d : Link) (lt : j < lengt
 pub short-end : (q : List Object) (ls : List Link) (j : ℕ) → length ls ≤ j → Short q (drop j ls)
 short-end q ls j le = subst (Short q) (sym (drop_all j ls le)) tt
 
-module _ (w : List ℕ) (s : Serializer) where
+module _ (w : List ℕ) (s : Tables) where
   pub all-short_at : (n i : ℕ) → AllShort (pool_to w s n) → i < n → Short (pool_to w s (suc i)) (object_at w s i).links
   all-short_at zero i h lt = absurd (omega arith)
   all-short_at (suc n) i (a, h) lt =
@@ -147,7 +147,7 @@ put-before out₀ out ys zs rest a b ab in-out is =
     let high : drop (b - a) (drop a out) ≡ zs ++ rest = drop-drop (b - a) a out ∙ ap (λ k. drop k out) z ∙ ap (drop b) is ∙ drop_at (take b out₀) (zs ++ rest) b e in
     ap (λ l. l ++ (ys ++ drop (b - a) (drop a out))) low ∙ ap (λ l. take a out₀ ++ (ys ++ l)) high ∙ ap (λ l. take a out₀ ++ l) (sym (append_assoc ys zs rest))
 
-module _ (w : List ℕ) (s : Serializer) where
+module _ (w : List ℕ) (s : Tables) where
   -- one object more is laid
   pub so_far_more : (n h l : ℕ) → Chain w s n h l → (out₀ out ys : List ℕ) (i : ℕ) → i < n → size (pool_to w s n) ≤ length out₀ → out ≡ so_far w s out₀ n i → ys ≡ patched (object_at w s i).bytes (object_at w s i).links (pool_to w s (suc i)) → put_mid ((entry_at s i).head - h) ((entry_at s i).tail - h - ((entry_at s i).head - h)) out ys ≡ so_far w s out₀ n (i + 1)
   so_far_more n h l chain out₀ out ys i lt room is laid-now =

@@ -1,11 +1,11 @@
 -- The packed objects by their numbers.
 use Rattle.std.proofs.Common.{◌≡◌, ℕ, zero, suc, ◌-◌, ◌<◌, ◌≤◌, List, length, get_or, sym, refl, ap, ◌∙◌, subst, ⊎_elim, arith}
 use Rattle.std.proofs.lemmas.Bool.{cases_order}
-use Rattle.serialize.specs.declared.tables.Serializer.{Serializer}
+use Rattle.serialize.specs.declared.tables.Tables.{Tables}
 use Rattle.serialize.specs.Objects.{Object, none, number, Stands, Absent}
 use Rattle.serialize.specs.Tables.{end, entry_at, object_at, pool_to, Chain, Entry}
 
-module _ (w : List ℕ) (s : Serializer) where
+module _ (w : List ℕ) (s : Tables) where
   pub length-pool : (n : ℕ) → length (pool_to w s n) ≡ n
   length-pool zero = refl
   length-pool (suc n) = ap suc (length-pool n)

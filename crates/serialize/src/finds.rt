@@ -1,10 +1,13 @@
 // The look-up of a packed object.
-ghost use Rattle.std.specs.Prelude.{◌≡◌, ◌<◌, length, Decides, MatchOption};
+ghost use Rattle.std.specs.Prelude.{◌≡◌, ◌<◌, ◌≤◌, length, Decides, MatchOption};
+ghost use Rattle.std.specs.List.{between};
 ghost use Rattle.serialize.specs.Objects.{Stands, Absent};
-ghost use Rattle.serialize.specs.Tables.{object_at, open_at, pool_to, hash_of, Entry, Lies, Over, Sound};
+ghost use Rattle.serialize.specs.Tables.{object_at, open_at, hash_of, Lies, Over};
+ghost use Rattle.serialize.specs.Sinks.{meaning};
 
 use crate::equals::hash;
-use crate::tables::{Counts, Link, Packed, Serializer};
+use crate::sinks::Serializer;
+use crate::tables::{Counts, Link, Packed};
 
 impl Packed {
     // Whether the entry lies in a work buffer of this size and in the table of links.
@@ -14,45 +17,65 @@ impl Packed {
         let bytes = self.head <= self.tail && self.tail as usize <= size;
         bytes && self.first <= self.last && self.last <= 4096
     }
+
+    // The bytes of the entry, which lies in the work buffer.
+    pub(crate) fn bytes(self, work: &[u8]) -> &[u8]
+        requires lies { Lies self (length work.now) }
+        ensures bytes { result.now ≡ between self.head self.tail work.now }
+    {
+        &work[self.head as usize..self.tail as usize]
+    }
+
+    // The links of the entry, which lies in the table of links.
+    pub(crate) fn links(self, links: &[Link]) -> &[Link]
+        requires lies { (self.first ≤ self.last) × (self.last ≤ length links.now) }
+        ensures links { result.now ≡ between self.first self.last links.now }
+    {
+        &links[self.first as usize..self.last as usize]
+    }
 }
 
-impl Serializer {
+impl Serializer<'_> {
     // Whether the packed object `i` has these bytes and links.
-    pub(crate) fn equals(&self, work: &[u8], i: usize, bytes: &[u8], links: &[Link]) -> bool
-        requires place { i < 2048 }
-        ensures same { Entry work.now self.now 0 0 i → Decides result (object_at work.now self.now i ≡ record { bytes = bytes.now; links = links.now }) }
+    pub(crate) fn equals(&self, i: u16, bytes: &[u8], links: &[Link]) -> bool
+        requires packed { i < self.now.counts.objects }
+        ensures same { Decides result (object_at self.now.work.now self.now.tables i ≡ record { bytes = bytes.now; links = links.now }) }
     {
-        let entry = self.packed[i];
-        let (head, tail) = (entry.head as usize, entry.tail as usize);
-        let (first, last) = (entry.first as usize, entry.last as usize);
-        if !entry.lies(work.len()) {
-            return false;
-        }
-        &work[head..tail] == bytes && &self.links[first..last] == links
+        let entry = self.tables.packed[i as usize];
+        entry.bytes(self.work) == bytes && entry.links(&self.tables.links) == links
     }
-    // The number of the packed object that is equal to the one open from `start` to `counts`.
-    pub(crate) fn find(&self, work: &[u8], start: Counts, counts: Counts, mark: u16) -> Option<u16>
-        requires over { Over start counts (length work.now) }
-        ensures found { Sound work.now self.now counts → mark ≡ hash_of (open_at work.now self.now start counts) → MatchOption result (Absent (open_at work.now self.now start counts) (pool_to work.now self.now counts.objects)) (Stands (open_at work.now self.now start counts) (pool_to work.now self.now counts.objects)) }
+
+    // The bytes and the links of the object open from `start` on.
+    pub(crate) fn since(&self, start: Counts) -> (&[u8], &[Link])
+        requires over { Over start self.now.counts (length self.now.work.now) }
+        ensures bytes { result.0.now ≡ between start.head self.now.counts.head self.now.work.now }
+        ensures links { result.1.now ≡ between start.lhead self.now.counts.lhead self.now.tables.links }
     {
-        let (head, end) = (start.head as usize, counts.head as usize);
-        let (first, last) = (start.lhead as usize, counts.lhead as usize);
-        let bytes = &work[head..end];
-        let links = &self.links[first..last];
-        for i in 0..counts.objects {
-            if self.packed[i as usize].hash == mark && self.equals(work, i as usize, bytes, links) {
+        let (head, end) = (start.head as usize, self.counts.head as usize);
+        let (first, last) = (start.lhead as usize, self.counts.lhead as usize);
+        (&self.work[head..end], &self.tables.links[first..last])
+    }
+
+    // The number of the packed object that is equal to the one open from `start` on.
+    pub(crate) fn find(&self, start: Counts, mark: u16) -> Option<u16>
+        requires over { Over start self.now.counts (length self.now.work.now) }
+        ensures found { let x = open_at self.now.work.now self.now.tables start self.now.counts in mark ≡ hash_of x → MatchOption result (Absent x (meaning self.now).pool) (Stands x (meaning self.now).pool) }
+    {
+        let (bytes, links) = self.since(start);
+        for i in 0..self.counts.objects {
+            if self.tables.packed[i as usize].hash == mark && self.equals(i, bytes, links) {
                 return Some(i);
             }
         }
         None
     }
-    // The hash of the object open from `start` to `counts`.
-    pub(crate) fn mark(&self, work: &[u8], start: Counts, counts: Counts) -> u16
-        requires over { Over start counts (length work.now) }
-        ensures hashed { result ≡ hash_of (open_at work.now self.now start counts) }
+
+    // The hash of the object open from `start` on.
+    pub(crate) fn mark(&self, start: Counts) -> u16
+        requires over { Over start self.now.counts (length self.now.work.now) }
+        ensures hashed { result ≡ hash_of (open_at self.now.work.now self.now.tables start self.now.counts) }
     {
-        let (head, end) = (start.head as usize, counts.head as usize);
-        let (first, last) = (start.lhead as usize, counts.lhead as usize);
-        hash(&work[head..end], &self.links[first..last])
+        let (bytes, links) = self.since(start);
+        hash(bytes, links)
     }
 }

@@ -2,11 +2,13 @@
 ghost use Rattle.std.specs.Prelude.{◌≡◌, ℕ, suc, ◌+◌, ◌-◌, ◌<◌, ◌≤◌, List, ◌++◌, length, drop, Decides, OnOk};
 ghost use Rattle.serialize.specs.Objects.{size, width_of, Fields};
 ghost use Rattle.serialize.specs.Tables.{Sound, entry_at, object_at, pool_to, sink_of};
+ghost use Rattle.serialize.specs.Sinks.{meaning};
 ghost use Rattle.serialize.specs.Trees.{ReadBack};
 ghost use Rattle.serialize.specs.Laying.{field, put, distance, patched, laid, Within, Short, AllShort, Laid};
 
 use crate::faults::Fault;
-use crate::tables::{Counts, Link, Serializer, Width};
+use crate::sinks::Serializer;
+use crate::tables::{Counts, Link, Tables, Width};
 
 // Writes the distance into the link's field, which lies in the part.
 pub(crate) fn put_field(part: &mut [u8], link: Link, distance: u32)
@@ -33,7 +35,7 @@ pub(crate) fn within(width: Width, distance: u32) -> bool
     }
 }
 
-impl Serializer {
+impl Tables {
     // How far the target of a link is from the object `i`, which holds it.
     pub(crate) fn distance(&self, i: usize, link: Link) -> u32
         requires place { i < 2048 }
@@ -130,26 +132,23 @@ impl Serializer {
             self.put_object(work, i as usize, &mut out[from - tail..to - tail]);
         }
     }
+}
 
+impl Serializer<'_> {
     // Lays the packed objects in `out`, the newest first, and answers how many bytes they take. The bytes of `out`
     // after them stay.
-    pub fn lay(&self, work: &[u8], counts: Counts, out: &mut [u8]) -> Result<usize, Fault>
-        ensures laid { Sound work.now self.now counts → Laid (sink_of work.now self.now counts).pool out.old out.new result }
-        ensures read { Sound work.now self.now counts → OnOk result (ReadBack (sink_of work.now self.now counts).pool out.new) }
+    pub fn lay(&self, out: &mut [u8]) -> Result<usize, Fault>
+        ensures laid { Laid (meaning self.now).pool out.old out.new result }
+        ensures read { OnOk result (ReadBack (meaning self.now).pool out.new) }
     {
-        let end = work.len().min(0xffff_ffff);
-        let tail = counts.tail as usize;
-        if counts.objects > 2048 || tail > end {
-            return Err(Fault::Work);
-        }
-        if !self.all_short(counts) {
+        if !self.tables.all_short(self.counts) {
             return Err(Fault::Offset);
         }
-        let size = end - tail;
+        let size = self.work.len().min(0xffff_ffff) - self.counts.tail as usize;
         if out.len() < size {
             return Err(Fault::Out);
         }
-        self.lay_all(work, counts, out);
+        self.tables.lay_all(self.work, self.counts, out);
         Ok(size)
     }
 }

@@ -1,15 +1,16 @@
 // A fresh sink, and the opening and discarding of objects.
 ghost use Rattle.std.specs.Prelude.{◌≡◌, ℕ, ◌<◌, List, [], length};
 ghost use Rattle.serialize.specs.Tables.{Sound, end, sink_of};
-ghost use Rattle.serialize.specs.Calls.{Pushed, Discards};
+ghost use Rattle.serialize.specs.Sinks.{Works, Pushed, Discards};
 
 use crate::faults::Fault;
-use crate::tables::{Counts, Frame, Link, Packed, Serializer, Width};
+use crate::sinks::Serializer;
+use crate::tables::{Counts, Frame, Link, Packed, Tables, Width};
 use crate::tokens::Token;
 
 impl Counts {
     // Nothing is in use of the work buffer or of the tables.
-    pub fn new(work: &[u8]) -> Counts
+    pub(crate) fn new(work: &[u8]) -> Counts
         ensures fresh { result ≡ record { head = 0; tail = end work.now; lhead = 0; ltail = 4096; objects = 0; depth = 0 } }
     {
         let tail = work.len().min(0xffff_ffff) as u32;
@@ -24,9 +25,9 @@ impl Counts {
     }
 }
 
-impl Serializer {
+impl Tables {
     // Tables of which nothing is in use.
-    pub fn new() -> Serializer
+    pub(crate) fn new() -> Tables
         ensures fresh { (w : List ℕ) → Sound w result (record { head = 0; tail = end w; lhead = 0; ltail = 4096; objects = 0; depth = 0 }) }
     {
         let start = Counts {
@@ -49,33 +50,37 @@ impl Serializer {
             target: 0,
             width: Width::Two,
         };
-        Serializer {
+        Tables {
             frames: [Frame { start }; 8],
             packed: [packed; 2048],
             links: [link; 4096],
         }
     }
+}
 
+impl Serializer<'_> {
     // Opens an object on top of the open ones. Its token is given back by packing or discarding it.
-    pub fn push(&mut self, counts: &mut Counts) -> Result<Token, Fault>
-        ensures pushed { (w : List ℕ) → Sound w self.old counts.old → Pushed w self.old self.new counts.old counts.new result }
+    pub fn push(&mut self) -> Result<Token, Fault>
+        ensures same_work { Works self.old self.new }
+        ensures pushed { Pushed self.old self.new result }
     {
-        let depth = counts.depth;
+        let depth = self.counts.depth;
         if depth >= 8 {
             return Err(Fault::Limit);
         }
-        let at = depth as usize;
-        self.frames[at].begin(*counts);
-        counts.depth = depth + 1;
+        self.tables.frames[depth as usize].begin(self.counts);
+        self.counts.depth = depth + 1;
         Ok(Token { level: depth + 1 })
     }
 
     // Drops the top object, and what was packed since its opening.
-    pub fn pop_discard(&self, counts: &mut Counts, token: Token)
-        ensures discarded { (w : List ℕ) → Sound w self.now counts.old → token.level ≡ counts.old.depth → Discards w self.now counts.old counts.new }
+    pub fn pop_discard(&mut self, token: Token)
+        ensures same_work { Works self.old self.new }
+        ensures discarded { 0 < self.old.counts.depth → Discards self.old self.new }
     {
-        let Token { level } = token;
-        let start = self.frames[level as usize - 1].start;
-        *counts = start;
+        let Token { level: _ } = token;
+        if let Some(opening) = self.opening() {
+            self.counts = opening;
+        }
     }
 }

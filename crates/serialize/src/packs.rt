@@ -2,25 +2,16 @@
 ghost use Rattle.std.specs.Prelude.{◌≡◌, ◌+◌, ◌-◌, ◌<◌, length, drop, IfOk, Decides, slice_set};
 ghost use Rattle.std.proofs.Math.Seq.{paste};
 ghost use Rattle.serialize.specs.Tables.{Over, Sound, sink_of};
-ghost use Rattle.serialize.specs.Calls.{top, PopPacked};
+ghost use Rattle.serialize.specs.Calls.{top};
+ghost use Rattle.serialize.specs.Sinks.{meaning, Works, PopPacked};
 ghost use Rattle.serialize.specs.Trees.{Planted};
 
 use crate::faults::Fault;
-use crate::tables::{Counts, Packed, Serializer};
+use crate::sinks::Serializer;
+use crate::tables::{Counts, Packed, Tables};
 use crate::tokens::Token;
 
-impl Counts {
-    // Whether these lie in a work buffer of this size and in the tables, past those at an object's opening.
-    pub(crate) fn over(self, start: Counts, size: usize) -> bool
-        ensures over { Decides result (Over start self size) }
-    {
-        let bytes = start.head <= self.head && self.head <= self.tail && self.tail as usize <= size;
-        let links = start.lhead <= self.lhead && self.lhead <= self.ltail && self.ltail <= 4096;
-        bytes && links && self.objects <= 2048
-    }
-}
-
-impl Serializer {
+impl Tables {
     // Moves the object open from `start` to `counts` to the packed ones, as a new one.
     pub(crate) fn settle(
         &mut self,
@@ -58,27 +49,24 @@ impl Serializer {
             depth: start.depth,
         }
     }
+}
+
+impl Serializer<'_> {
     // Packs the top object, and answers its number: that of the standing object with equal bytes and links, else a new
     // one. Where no number is left, the object is dropped as by a discard.
-    pub fn pop_pack(
-        &mut self,
-        work: &mut [u8],
-        counts: &mut Counts,
-        token: Token,
-    ) -> Result<u16, Fault>
-        ensures packed { Sound work.old self.old counts.old → token.level ≡ counts.old.depth → PopPacked work.old work.new self.old self.new counts.old counts.new result }
-        ensures planted { Sound work.old self.old counts.old → token.level ≡ counts.old.depth → IfOk result (Planted (top (sink_of work.old self.old counts.old)) (sink_of work.old self.old counts.old).pool (sink_of work.new self.new counts.new).pool) }
+    pub fn pop_pack(&mut self, token: Token) -> Result<u16, Fault>
+        ensures same_work { Works self.old self.new }
+        ensures packed { 0 < self.old.counts.depth → PopPacked self.old self.new result }
+        ensures planted { 0 < self.old.counts.depth → IfOk result (Planted (top (meaning self.old)) (meaning self.old).pool (meaning self.new).pool) }
     {
-        let Token { level } = token;
-        let start = self.frames[level as usize - 1].start;
-        let grown = *counts;
-        if !grown.over(start, work.len()) {
-            *counts = start;
+        let Token { level: _ } = token;
+        let Some(start) = self.opening() else {
             return Err(Fault::Work);
-        }
-        let mark = self.mark(work, start, grown);
-        if let Some(number) = self.find(work, start, grown, mark) {
-            *counts = Counts {
+        };
+        let grown = self.counts;
+        let mark = self.mark(start);
+        if let Some(number) = self.find(start, mark) {
+            self.counts = Counts {
                 head: start.head,
                 tail: grown.tail,
                 lhead: start.lhead,
@@ -89,10 +77,10 @@ impl Serializer {
             return Ok(number);
         }
         if grown.objects >= 2048 {
-            *counts = start;
+            self.counts = start;
             return Err(Fault::Limit);
         }
-        *counts = self.settle(work, start, grown, mark);
+        self.counts = self.tables.settle(self.work, start, grown, mark);
         Ok(grown.objects)
     }
 }

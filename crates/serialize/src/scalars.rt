@@ -1,10 +1,9 @@
 // Numbers as bytes, the highest byte first.
 ghost use Rattle.std.specs.Prelude.{◌≡◌, ℕ, ◌/◌, ◌%◌, ◌≤◌, List, [], ◌∷◌, take};
-ghost use Rattle.serialize.specs.Tables.{Sound};
-ghost use Rattle.serialize.specs.Calls.{Embedded};
+ghost use Rattle.serialize.specs.Sinks.{Works, Embedded};
 
 use crate::faults::Fault;
-use crate::tables::{Counts, Serializer};
+use crate::sinks::Serializer;
 
 // A number that can be a field: its bytes are the first of four.
 pub trait Scalar: Copy {
@@ -31,17 +30,13 @@ impl Scalar for u32 {
     }
 }
 
-impl Serializer {
+impl Serializer<'_> {
     // Adds a number to the top object.
-    pub fn embed<S: Scalar>(
-        &self,
-        work: &mut [u8],
-        counts: &mut Counts,
-        value: S,
-    ) -> Result<(), Fault>
-        ensures embedded { Sound work.old self.now counts.old → Embedded (S.code value) work.old work.new self.now counts.old counts.new result }
+    pub fn embed<S: Scalar>(&mut self, value: S) -> Result<(), Fault>
+        ensures same_work { Works self.old self.new }
+        ensures embedded { Embedded (S.code value) self.old self.new result }
     {
         let (raw, size) = value.raw();
-        self.embed_bytes(work, counts, &raw[0..size])
+        self.embed_bytes(&raw[0..size])
     }
 }

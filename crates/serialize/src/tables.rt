@@ -45,7 +45,7 @@ pub struct Packed {
 
 // The tables of a sink.
 #[derive(Drop)]
-pub struct Serializer {
+pub struct Tables {
     pub(crate) frames: [Frame; 8],
     pub(crate) packed: [Packed; 2048],
     pub(crate) links: [Link; 4096],

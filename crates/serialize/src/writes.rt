@@ -1,28 +1,22 @@
 // Bytes of the open object.
-ghost use Rattle.std.specs.Prelude.{◌≡◌};
-ghost use Rattle.serialize.specs.Tables.{Sound};
-ghost use Rattle.serialize.specs.Calls.{Embedded};
+ghost use Rattle.serialize.specs.Sinks.{Works, Embedded};
 
 use crate::faults::Fault;
-use crate::tables::{Counts, Serializer};
+use crate::sinks::Serializer;
 
-impl Serializer {
+impl Serializer<'_> {
     // Adds bytes to the top object.
-    pub fn embed_bytes(
-        &self,
-        work: &mut [u8],
-        counts: &mut Counts,
-        bytes: &[u8],
-    ) -> Result<(), Fault>
-        ensures embedded { Sound work.old self.now counts.old → Embedded bytes.now work.old work.new self.now counts.old counts.new result }
+    pub fn embed_bytes(&mut self, bytes: &[u8]) -> Result<(), Fault>
+        ensures same_work { Works self.old self.new }
+        ensures embedded { Embedded bytes.now self.old self.new result }
     {
-        let (head, tail) = (counts.head as usize, counts.tail as usize);
-        if tail > work.len() || tail < head || tail - head < bytes.len() {
+        let (head, tail) = (self.counts.head as usize, self.counts.tail as usize);
+        if tail - head < bytes.len() {
             return Err(Fault::Work);
         }
         let end = head + bytes.len();
-        work[head..end].copy_from_slice(bytes);
-        counts.head = end as u32;
+        self.work[head..end].copy_from_slice(bytes);
+        self.counts.head = end as u32;
         Ok(())
     }
 }

@@ -1,18 +1,17 @@
 // The sink on small examples.
-use serialize::{Counts, Fault, Serializer, Width};
+use serialize::{Fault, Serializer, Width};
 use std::test::Fail;
 
 // Packs the same bytes twice, and lays what stands.
 fn twins(out: &mut [u8]) -> Result<usize, Fault> {
     let mut work = [0u8; 64];
-    let mut counts = Counts::new(&work);
-    let mut sink = Serializer::new();
-    let first = sink.copy_object(&mut work, &mut counts, b"ab")?;
-    let second = sink.copy_object(&mut work, &mut counts, b"ab")?;
+    let mut sink = Serializer::new(&mut work);
+    let first = sink.copy_object(b"ab")?;
+    let second = sink.copy_object(b"ab")?;
     if first != second {
         return Err(Fault::Limit);
     }
-    sink.lay(&work, counts, out)
+    sink.lay(out)
 }
 
 #[test]
@@ -32,20 +31,19 @@ fn out_too_short(rt: HostRuntime) {
 // Packs a root of a number and an offset, and lays it before what the offset leads to.
 fn linked(out: &mut [u8]) -> Result<usize, Fault> {
     let mut work = [0u8; 64];
-    let mut counts = Counts::new(&work);
-    let mut sink = Serializer::new();
-    let leaf = sink.copy_object(&mut work, &mut counts, b"ab")?;
-    let token = sink.push(&mut counts)?;
-    if let Err(fault) = sink.embed(&mut work, &mut counts, 5u16) {
-        sink.pop_discard(&mut counts, token);
+    let mut sink = Serializer::new(&mut work);
+    let leaf = sink.copy_object(b"ab")?;
+    let token = sink.push()?;
+    if let Err(fault) = sink.embed(5u16) {
+        sink.pop_discard(token);
         return Err(fault);
     }
-    if let Err(fault) = sink.add_offset(&mut work, &mut counts, Width::Two, leaf) {
-        sink.pop_discard(&mut counts, token);
+    if let Err(fault) = sink.add_offset(Width::Two, leaf) {
+        sink.pop_discard(token);
         return Err(fault);
     }
-    sink.pop_pack(&mut work, &mut counts, token)?;
-    sink.lay(&work, counts, out)
+    sink.pop_pack(token)?;
+    sink.lay(out)
 }
 
 #[test]
