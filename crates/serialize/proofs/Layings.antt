@@ -175,3 +175,8 @@ module _ (w : List ℕ) (s : Tables) where
       let e = entry-places w s c.objects c.tail c.ltail sound.base.chain k lt in
       let o = number_of w s c.objects k lt in
       (e.2 ∙ ap (λ p. size (pool_to w s c.objects) - size p) (sym (from-pool w s c.objects k lt)), ap (λ (x : Object). x.bytes) (sym o), ap (λ (x : Object). x.links) (sym o))
+
+-- a link of a packed object leads to an older one, and its field lies in the object's bytes
+pub link_at : (w : List ℕ) (s : Tables) (c : Counts) (i : ℕ) → Sound w s c → i < c.objects → (ls : List Link) → ls ≡ (object_at w s i).links → (j : ℕ) (d : Link) → j < length ls → ((get_or ls j d).target < i) × ((get_or ls j d).position + width_of (get_or ls j d).width ≤ length (object_at w s i).bytes)
+link_at w s c i sound lt ls is j d in-ls =
+    field_at 0 ls (length (object_at w s i).bytes) i j d (subst (λ k. Fields 0 k (length (object_at w s i).bytes) i) (sym is) (linked-at w s c.objects i sound.base.linked lt)) in-ls

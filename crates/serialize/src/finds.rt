@@ -1,48 +1,39 @@
 // The look-up of a packed object.
-ghost use Rattle.std.specs.Prelude.{◌≡◌, ◌<◌, ◌≤◌, length, Decides, MatchOption};
+ghost use Rattle.std.specs.Prelude.{◌≡◌, ◌<◌, length, Decides, MatchOption};
 ghost use Rattle.std.specs.List.{between};
 ghost use Rattle.serialize.specs.Objects.{Stands, Absent};
-ghost use Rattle.serialize.specs.Tables.{object_at, open_at, hash_of, Lies, Over};
+ghost use Rattle.serialize.specs.Tables.{object_at, open_at, hash_of, Over};
 ghost use Rattle.serialize.specs.Sinks.{meaning};
 
 use crate::equals::hash;
 use crate::sinks::Serializer;
-use crate::tables::{Counts, Link, Packed};
-
-impl Packed {
-    // Whether the entry lies in a work buffer of this size and in the table of links.
-    pub(crate) fn lies(self, size: usize) -> bool
-        ensures lies { Decides result (Lies self size) }
-    {
-        let bytes = self.head <= self.tail && self.tail as usize <= size;
-        bytes && self.first <= self.last && self.last <= 4096
-    }
-
-    // The bytes of the entry, which lies in the work buffer.
-    pub(crate) fn bytes(self, work: &[u8]) -> &[u8]
-        requires lies { Lies self (length work.now) }
-        ensures bytes { result.now ≡ between self.head self.tail work.now }
-    {
-        &work[self.head as usize..self.tail as usize]
-    }
-
-    // The links of the entry, which lies in the table of links.
-    pub(crate) fn links(self, links: &[Link]) -> &[Link]
-        requires lies { (self.first ≤ self.last) × (self.last ≤ length links.now) }
-        ensures links { result.now ≡ between self.first self.last links.now }
-    {
-        &links[self.first as usize..self.last as usize]
-    }
-}
+use crate::tables::{Counts, Link};
 
 impl Serializer<'_> {
+    // The bytes of the packed object `i`.
+    pub(crate) fn bytes(&self, i: u16) -> &[u8]
+        requires packed { i < self.now.counts.objects }
+        ensures bytes { result.now ≡ (object_at self.now.work.now self.now.tables i).bytes }
+    {
+        let entry = self.tables.packed[i as usize];
+        &self.work[entry.head as usize..entry.tail as usize]
+    }
+
+    // The links of the packed object `i`.
+    pub(crate) fn links(&self, i: u16) -> &[Link]
+        requires packed { i < self.now.counts.objects }
+        ensures links { result.now ≡ (object_at self.now.work.now self.now.tables i).links }
+    {
+        let entry = self.tables.packed[i as usize];
+        &self.tables.links[entry.first as usize..entry.last as usize]
+    }
+
     // Whether the packed object `i` has these bytes and links.
     pub(crate) fn equals(&self, i: u16, bytes: &[u8], links: &[Link]) -> bool
         requires packed { i < self.now.counts.objects }
         ensures same { Decides result (object_at self.now.work.now self.now.tables i ≡ record { bytes = bytes.now; links = links.now }) }
     {
-        let entry = self.tables.packed[i as usize];
-        entry.bytes(self.work) == bytes && entry.links(&self.tables.links) == links
+        self.bytes(i) == bytes && self.links(i) == links
     }
 
     // The bytes and the links of the object open from `start` on.

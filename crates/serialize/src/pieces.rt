@@ -23,11 +23,11 @@ impl Serializer<'_> {
         if number >= self.counts.objects {
             return None;
         }
-        let entry = self.tables.packed[number as usize];
+        let head = self.tables.packed[number as usize].head;
         Some(Piece {
-            place: (entry.head - self.counts.tail) as usize,
-            bytes: entry.bytes(self.work),
-            links: entry.links(&self.tables.links),
+            place: (head - self.counts.tail) as usize,
+            bytes: self.bytes(number),
+            links: self.links(number),
         })
     }
 }

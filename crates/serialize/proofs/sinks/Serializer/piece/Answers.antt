@@ -1,5 +1,5 @@
 use Rattle.std.proofs.Common.{◌∙◌, arith}
-use Rattle.serialize.proofs.Layings.{entry-places, entry-lies, piece_is}
+use Rattle.serialize.proofs.Layings.{entry-places, piece_is}
 use Rattle.serialize.proofs.sinks.Serializer.piece.Goals as goal
 
 pub overflow_sub-result : goal.overflow_sub-result
@@ -7,15 +7,6 @@ overflow_sub-result c =
     let k = c.args.self.now in
     let e = entry-places k.work.now k.tables _ _ _ k.sound.base.chain c.args.number c.if-number-self.false in
     omega (arith, e.0)
-
-pub bytes-requires : goal.bytes-requires
-bytes-requires c = let k = c.args.self.now in record { lies = entry-lies k.work.now k.tables k.counts c.args.number k.sound c.if-number-self.false }
-
-pub links-requires : goal.links-requires
-links-requires c =
-    let k = c.args.self.now in
-    let e = entry-lies k.work.now k.tables k.counts c.args.number k.sound c.if-number-self.false in
-    record { lies = (e.link_size, omega (arith, e.link_high, k.sound.links)) }
 
 pub returns : goal.returns
 returns c =
