@@ -97,7 +97,7 @@ module _ (w : List ℕ) (s : Tables) where
           kept = record { length_work = refl; head = refl; tail = refl; link_head = refl; link_tail = refl; entries = refl; frames = refl };
         }
 
-pub packs-shared-to : (w : List ℕ) (s : Tables) (c f c' : Counts) (k : ℕ) → Sound w s c → Top w s c f → Stands (open_at w s f c) (pool_to w s c.objects) k → c' ≡ under f c.tail c.ltail c.objects → Packs w w s s c c' k
+packs-shared-to : (w : List ℕ) (s : Tables) (c f c' : Counts) (k : ℕ) → Sound w s c → Top w s c f → Stands (open_at w s f c) (pool_to w s c.objects) k → c' ≡ under f c.tail c.ltail c.objects → Packs w w s s c c' k
 packs-shared-to w s c f c' k sound h st e = subst (λ (d : Counts). Packs w w s s c d k) (sym e) (packs-shared w s c f sound h k st)
 
 -- A part of a list that is moved up to end at t: what stood there is gone, and the rest stays.
@@ -225,6 +225,12 @@ module _ (w w' : List ℕ) (s : Tables) (ls : List Link) (c f : Counts) (mark : 
         kept = subst (λ (g : Counts). Kept g w s w' s') (sym h.frame) kept;
       }
 
+packs-settled : (w w' : List ℕ) (s s' : Tables) (c f c' : Counts) (mark : ℕ) → Sound w s c → Top w s c f → Absent (open_at w s f c) (pool_to w s c.objects) → c.objects < 2048 → mark ≡ hash_of (open_at w s f c) → w' ≡ paste w (c.tail - (c.head - f.head)) (drop f.head w) (c.head - f.head) → s' ≡ settled s f c mark (paste s.links (c.ltail - (c.lhead - f.lhead)) (drop f.lhead s.links) (c.lhead - f.lhead)) → c' ≡ packed-counts f c → Packs w w' s s' c c' c.objects
+packs-settled w w' s _ c f c' mark sound h new room hashed wis sis cis =
+    subst (λ (t : Tables). Packs w w' s t c c' c.objects) (sym sis)
+    (subst (λ (d : Counts). Packs w w' s (settled s f c mark (paste s.links (c.ltail - (c.lhead - f.lhead)) (drop f.lhead s.links) (c.lhead - f.lhead))) c d c.objects) (sym cis)
+    (packs-new w w' s (paste s.links (c.ltail - (c.lhead - f.lhead)) (drop f.lhead s.links) (c.lhead - f.lhead)) c f mark sound h new room hashed wis refl))
+
 -- the top frame, as it is found
 module _ (w : List ℕ) (s : Tables) (c f : Counts) (sound : Sound w s c) (some : 0 < c.depth) (is : f ≡ start_at s (c.depth - 1)) where
   pub top-at : Top w s c f
@@ -243,8 +249,8 @@ module _ (w : List ℕ) (s : Tables) (c f : Counts) (sound : Sound w s c) (some 
     gone = discards w s c sound f some is;
   }
 
-pub packs-settled : (w w' : List ℕ) (s s' : Tables) (c f c' : Counts) (mark : ℕ) → Sound w s c → Top w s c f → Absent (open_at w s f c) (pool_to w s c.objects) → c.objects < 2048 → mark ≡ hash_of (open_at w s f c) → w' ≡ paste w (c.tail - (c.head - f.head)) (drop f.head w) (c.head - f.head) → s' ≡ settled s f c mark (paste s.links (c.ltail - (c.lhead - f.lhead)) (drop f.lhead s.links) (c.lhead - f.lhead)) → c' ≡ packed-counts f c → Packs w w' s s' c c' c.objects
-packs-settled w w' s _ c f c' mark sound h new room hashed wis sis cis =
-    subst (λ (t : Tables). Packs w w' s t c c' c.objects) (sym sis)
-    (subst (λ (d : Counts). Packs w w' s (settled s f c mark (paste s.links (c.ltail - (c.lhead - f.lhead)) (drop f.lhead s.links) (c.lhead - f.lhead))) c d c.objects) (sym cis)
-    (packs-new w w' s (paste s.links (c.ltail - (c.lhead - f.lhead)) (drop f.lhead s.links) (c.lhead - f.lhead)) c f mark sound h new room hashed wis refl))
+  pub packs-found : (c' : Counts) (k : ℕ) → Stands (open_at w s f c) (pool_to w s c.objects) k → c' ≡ under f c.tail c.ltail c.objects → Packs w w s s c c' k
+  packs-found c' k st e = packs-shared-to w s c f c' k sound top-at st e
+
+  pub packs-fresh : (w' : List ℕ) (s' : Tables) (c' : Counts) (mark : ℕ) → Absent (open_at w s f c) (pool_to w s c.objects) → c.objects < 2048 → mark ≡ hash_of (open_at w s f c) → w' ≡ paste w (c.tail - (c.head - f.head)) (drop f.head w) (c.head - f.head) → s' ≡ settled s f c mark (paste s.links (c.ltail - (c.lhead - f.lhead)) (drop f.lhead s.links) (c.lhead - f.lhead)) → c' ≡ packed-counts f c → Packs w w' s s' c c' c.objects
+  packs-fresh w' s' c' mark new room hashed wis sis cis = packs-settled w w' s s' c f c' mark sound top-at new room hashed wis sis cis

@@ -5,7 +5,7 @@ ghost use Rattle.serialize.specs.Objects.{Stands, Absent};
 ghost use Rattle.serialize.specs.Tables.{object_at, open_at, hash_of, Over};
 ghost use Rattle.serialize.specs.Sinks.{meaning};
 
-use crate::equals::hash;
+use crate::hashes::hash;
 use crate::sinks::Serializer;
 use crate::tables::{Counts, Link};
 
@@ -28,11 +28,15 @@ impl Serializer<'_> {
         &self.tables.links[entry.first as usize..entry.last as usize]
     }
 
-    // Whether the packed object `i` has these bytes and links.
-    pub(crate) fn equals(&self, i: u16, bytes: &[u8], links: &[Link]) -> bool
+    // Whether the packed object `i` has these bytes and links, whose hash is `mark`.
+    pub(crate) fn equals(&self, i: u16, bytes: &[u8], links: &[Link], mark: u16) -> bool
         requires packed { i < self.now.counts.objects }
+        requires hashed { mark ≡ hash_of (record { bytes = bytes.now; links = links.now }) }
         ensures same { Decides result (object_at self.now.work.now self.now.tables i ≡ record { bytes = bytes.now; links = links.now }) }
     {
+        if self.tables.packed[i as usize].hash != mark {
+            return false;
+        }
         self.bytes(i) == bytes && self.links(i) == links
     }
 
@@ -47,18 +51,14 @@ impl Serializer<'_> {
         (&self.work[head..end], &self.tables.links[first..last])
     }
 
-    // The number of the packed object that is equal to the one open from `start` on.
+    // The number of the packed object that is equal to the one open from `start` on, whose hash is `mark`.
     pub(crate) fn find(&self, start: Counts, mark: u16) -> Option<u16>
         requires over { Over start self.now.counts (length self.now.work.now) }
-        ensures found { let x = open_at self.now.work.now self.now.tables start self.now.counts in mark ≡ hash_of x → MatchOption result (Absent x (meaning self.now).pool) (Stands x (meaning self.now).pool) }
+        requires hashed { mark ≡ hash_of (open_at self.now.work.now self.now.tables start self.now.counts) }
+        ensures found { let x = open_at self.now.work.now self.now.tables start self.now.counts in MatchOption result (Absent x (meaning self.now).pool) (Stands x (meaning self.now).pool) }
     {
         let (bytes, links) = self.since(start);
-        for i in 0..self.counts.objects {
-            if self.tables.packed[i as usize].hash == mark && self.equals(i, bytes, links) {
-                return Some(i);
-            }
-        }
-        None
+        (0..self.counts.objects).find(|i| self.equals(*i, bytes, links, mark))
     }
 
     // The hash of the object open from `start` on.

@@ -60,25 +60,16 @@ impl Serializer<'_> {
         requires packed { i < self.now.counts.objects }
         ensures short { Decides result (Short (pool_to self.now.work.now self.now.tables (suc i)) (object_at self.now.work.now self.now.tables i).links) }
     {
-        let links = self.links(i);
-        for link in links {
-            if !within(link.width, self.distance(i, *link)) {
-                return false;
-            }
-        }
-        true
+        self.links(i)
+            .iter()
+            .all(|link| within(link.width, self.distance(i, *link)))
     }
 
     // Whether each link of each packed object is.
     pub(crate) fn all_short(&self) -> bool
         ensures short { Decides result (AllShort (meaning self.now).pool) }
     {
-        for i in 0..self.counts.objects {
-            if !self.short(i) {
-                return false;
-            }
-        }
-        true
+        (0..self.counts.objects).all(|i| self.short(i))
     }
 
     // Writes every packed object to its place.

@@ -3,10 +3,10 @@
 
 mod assigns;
 mod copies;
-mod equals;
 mod faults;
 mod finds;
 mod frames;
+mod hashes;
 mod lays;
 mod links;
 mod marks;

@@ -1,8 +1,12 @@
-use Rattle.std.proofs.lemmas.Bool.{both_ways, false≢true}
-use Rattle.serialize.proofs.Layings.{all-short_at}
+use Rattle.std.proofs.Common.{suc, refl, rules, arith}
+use borrow.Author.Tests.{tests}
+use Rattle.std.proofs.lemmas.Iterator.{cases_from_all, YieldsList-from_range}
+use Rattle.serialize.specs.Tables.{object_at, pool_to}
+use Rattle.serialize.specs.Laying.{Short}
+use Rattle.serialize.proofs.Layings.{all-short_from}
 use Rattle.serialize.proofs.sinks.Serializer.all_short.Goals as goal
 
-pub returns-then-not-short : goal.returns-then-not-short
-returns-then-not-short c =
+pub returns : goal.returns
+returns c =
     let k = c.args.self.now in
-    record { short = (λ p. absurd (false≢true p), λ h. absurd (both_ways _ c.if-not-short.true (c.short.ensures.short.1 (all-short_at k.work.now k.tables k.counts.objects c.loop-i.i h c.loop-i-test.true)))) }
+    record { short = all-short_from k.work.now k.tables k.counts.objects c.all.result (cases_from_all _ _ _ (λ i. Short (pool_to k.work.now k.tables (suc i)) (object_at k.work.now k.tables i).links) (λ i. Short (pool_to k.work.now k.tables (suc i)) (object_at k.work.now k.tables i).links → ⊥) c.all.ensures.ran (YieldsList-from_range 0 k.counts.objects k.counts.objects refl (omega arith)) (λ i q p. search (rules, tests)) (λ i q p. search (rules, tests))) }

@@ -8,9 +8,7 @@ pub(crate) fn hash(bytes: &[u8], links: &[Link]) -> u16
     requires { length links.now < 65536 }
     ensures hashed { result ≡ fold (λ h b. (h * 31 + b) % 65536) (length links.now) bytes.now }
 {
-    let mut h = links.len() as u32;
-    for b in bytes {
-        h = (h * 31 + *b as u32) % 65536;
-    }
-    h as u16
+    bytes.iter().fold(links.len() as u16, |h, b| {
+        ((h as u32 * 31 + *b as u32) % 65536) as u16
+    })
 }
