@@ -22,13 +22,15 @@ pub(crate) fn put_field(part: &mut [u8], link: Link, distance: u32)
     part[at..at + size].copy_from_slice(&raw[from..4]);
 }
 
-// Whether a field of this width holds the distance.
-pub(crate) fn within(width: Width, distance: u32) -> bool
-    ensures within { Decides result (Within width distance) }
-{
-    match width {
-        Width::Two => distance <= 65535,
-        Width::Four => true,
+impl Width {
+    // Whether a field of this width holds the distance.
+    pub(crate) fn holds(self, distance: u32) -> bool
+        ensures within { Decides result (Within self distance) }
+    {
+        match self {
+            Width::Two => distance <= 65535,
+            Width::Four => true,
+        }
     }
 }
 
@@ -62,7 +64,7 @@ impl Serializer<'_> {
     {
         self.links(i)
             .iter()
-            .all(|link| within(link.width, self.distance(i, *link)))
+            .all(|link| link.width.holds(self.distance(i, *link)))
     }
 
     // Whether each link of each packed object is.

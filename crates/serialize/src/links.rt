@@ -13,13 +13,10 @@ use crate::tables::{Counts, Link, Tables, Width};
 
 impl Width {
     // How many bytes a field of this width has.
-    pub(crate) fn size(self) -> u16
+    pub fn size(self) -> u16
         ensures size { result ≡ width_of self }
     {
-        match self {
-            Width::Two => 2,
-            Width::Four => 4,
-        }
+        self as u16
     }
 }
 

@@ -1,5 +1,6 @@
 // A mark before a record: the counts stand as they were at its end, unless the record is kept. What they count stays as
-// it was. It is built in place, as `let saved = sink.counts(); let mut mark = Mark { sink, saved, kept: false };`.
+// it was. It is built in place, as `let saved = sink.counts(); let mut mark = Mark { sink, saved, kept: false };`: of a
+// mark that a function made, what its drop leaves in the sink is not proved yet.
 ghost use Rattle.serialize.specs.Tables.{Sound};
 ghost use Rattle.serialize.specs.Single.{Sound-prop};
 

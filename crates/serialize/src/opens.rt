@@ -15,12 +15,9 @@ impl Counts {
     {
         let tail = work.len().min(0xffff_ffff) as u32;
         Counts {
-            head: 0,
             tail,
-            lhead: 0,
             ltail: 4096,
-            objects: 0,
-            depth: 0,
+            ..Counts::default()
         }
     }
 }
@@ -30,29 +27,14 @@ impl Tables {
     pub(crate) fn new() -> Tables
         ensures fresh { (w : List ℕ) → Sound w result (record { head = 0; tail = end w; lhead = 0; ltail = 4096; objects = 0; depth = 0 }) }
     {
-        let start = Counts {
-            head: 0,
-            tail: 0,
-            lhead: 0,
-            ltail: 0,
-            objects: 0,
-            depth: 0,
-        };
-        let packed = Packed {
-            head: 0,
-            tail: 0,
-            first: 0,
-            last: 0,
-            hash: 0,
-        };
         let link = Link {
             position: 0,
             target: 0,
             width: Width::Two,
         };
         Tables {
-            frames: [Frame { start }; 8],
-            packed: [packed; 2048],
+            frames: [Frame::default(); 8],
+            packed: [Packed::default(); 2048],
             links: [link; 4096],
         }
     }

@@ -41,12 +41,10 @@ impl Tables {
             hash: mark,
         };
         Counts {
-            head: start.head,
             tail,
-            lhead: start.lhead,
             ltail,
             objects: counts.objects + 1,
-            depth: start.depth,
+            ..start
         }
     }
 }
@@ -68,11 +66,9 @@ impl Serializer<'_> {
         if let Some(number) = self.find(start, mark) {
             self.counts = Counts {
                 head: start.head,
-                tail: grown.tail,
                 lhead: start.lhead,
-                ltail: grown.ltail,
-                objects: grown.objects,
                 depth: start.depth,
+                ..grown
             };
             return Ok(number);
         }

@@ -4,8 +4,8 @@
 // The bytes of a link's field.
 #[derive(Clone, Copy, PartialEq, Eq, Debug)]
 pub enum Width {
-    Two,
-    Four,
+    Two = 2,
+    Four = 4,
 }
 
 // A field of an object, by its position there, that is to hold the distance to the object with the number `target`.
@@ -17,7 +17,7 @@ pub struct Link {
 }
 
 // How much of the work buffer and of each table is in use.
-#[derive(Clone, Copy)]
+#[derive(Clone, Copy, Default)]
 pub struct Counts {
     pub(crate) head: u32,
     pub(crate) tail: u32,
@@ -28,13 +28,13 @@ pub struct Counts {
 }
 
 // An open object: the counts at its opening.
-#[derive(Clone, Copy)]
+#[derive(Clone, Copy, Default)]
 pub struct Frame {
     pub(crate) start: Counts,
 }
 
 // A packed object: where its bytes and its links stand, and its hash.
-#[derive(Clone, Copy)]
+#[derive(Clone, Copy, Default)]
 pub struct Packed {
     pub(crate) head: u32,
     pub(crate) tail: u32,

@@ -9,7 +9,7 @@ mod tree;
 
 use halt::Halt;
 use hex::Hex;
-use serialize::{Piece, Serializer, Width};
+use serialize::{Piece, Serializer};
 use std::process::ExitCode;
 use tree::{pack_and_discard, pack_root};
 
@@ -70,10 +70,7 @@ fn show_object(rt: &HostRuntime, piece: Piece<'_>, number: u16) -> Result<(), Ha
     println!(rt; "  {number}: {bytes}")?;
     for link in piece.links {
         let (position, target) = (link.position, link.target);
-        let size = match link.width {
-            Width::Two => 2,
-            Width::Four => 4,
-        };
+        let size = link.width.size();
         println!(rt; "     at {position} a link of {size} bytes to object {target}")?;
     }
     Ok(())
