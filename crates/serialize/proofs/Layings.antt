@@ -120,9 +120,6 @@ module _ (w : List ℕ) (s : Tables) where
       (⊎_elim (λ (q : i < n). all-short_at n i h q) (λ (g : n < i). absurd (omega arith)))
       (cases_order i n)
 
-  pub all-short-more : (i : ℕ) → Short (pool_to w s (suc i)) (object_at w s i).links → AllShort (pool_to w s i) → AllShort (pool_to w s (i + 1))
-  all-short-more i a h = let e : suc i ≡ i + 1 = omega arith in subst (λ j. AllShort (pool_to w s j)) e (a, h)
-
   -- what is laid once the first i objects are
   abbrev pub so_far : List ℕ → ℕ → ℕ → List ℕ
   so_far out n i = take (size (pool_to w s n) - size (pool_to w s i)) out ++ (laid (pool_to w s i) ++ drop (size (pool_to w s n)) out)

@@ -1,5 +1,5 @@
 -- Steps one after another.
-use Rattle.std.proofs.Common.{◌≡◌, ℕ, ◌+◌, ◌-◌, ◌<◌, List, Ok, Err, Result, sym, refl, ap, ◌∙◌, subst, arith}
+use Rattle.std.proofs.Common.{◌≡◌, ℕ, ◌+◌, ◌-◌, ◌<◌, List, Ok, Err, Result, sym, ap, ◌∙◌, subst, arith}
 use Rattle.serialize.specs.declared.faults.Fault.{Fault}
 use Rattle.serialize.specs.declared.sinks.Serializer.{Serializer}
 use Rattle.serialize.specs.declared.tables.Width.{Width}
@@ -34,9 +34,6 @@ back_from k k₁ k₂ h ws ss cs =
 pub still_sound : (k k₁ : Serializer) (saved : Counts) → Keeps k k₁ → saved ≡ k.counts → Sound k₁.work.now k₁.tables saved
 still_sound k k₁ saved h e =
     subst (λ (x : Counts). Sound k₁.work.now k₁.tables x) (sym e) (sound-kept k.counts k₁.counts k.work.now k₁.work.now k.tables k₁.tables k.sound k₁.sound h).0
-
-pub grown-refl : (k : Serializer) → Grown k k
-grown-refl k = record { before = before_same k.counts k.counts refl; depth = refl; kept = kept_refl k.counts k.work.now k.tables }
 
 pub grown-trans : (k k₁ k₂ : Serializer) → Grown k k₁ → Grown k₁ k₂ → Grown k k₂
 grown-trans k k₁ k₂ a b =

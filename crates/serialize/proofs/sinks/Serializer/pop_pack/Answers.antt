@@ -1,25 +1,7 @@
 use Rattle.std.proofs.Common.{refl}
-use Rattle.serialize.proofs.Packings.{sound-over, full, packs-found, packs-fresh}
+use Rattle.serialize.proofs.Packings.{full, packs-found, packs-fresh}
 use Rattle.serialize.proofs.Reading.{packs-planted}
 use Rattle.serialize.proofs.sinks.Serializer.pop_pack.Goals as goal
-
-pub mark-mark-requires : goal.mark-mark-requires
-mark-mark-requires c =
-    let k = c.args.self.now in
-    let o = c.in-Some.ensures.opening in
-    record { over = sound-over k.work.now k.tables k.counts _ k.sound o.0 o.1 }
-
-pub find-requires : goal.find-requires
-find-requires c =
-    let k = c.args.self.now in
-    let o = c.in-Some.ensures.opening in
-    record { over = sound-over k.work.now k.tables k.counts _ k.sound o.0 o.1; hashed = c.mark-mark.ensures.hashed }
-
-pub settle-self-requires : goal.settle-self-requires
-settle-self-requires c =
-    let k = c.args.self.now in
-    let o = c.in-Some.ensures.opening in
-    record { over = sound-over k.work.now k.tables k.counts _ k.sound o.0 o.1; room = c.if-grown-ge2048.false }
 
 pub invariant_of-self : goal.invariant_of-self
 invariant_of-self c =

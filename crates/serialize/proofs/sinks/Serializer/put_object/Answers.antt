@@ -1,10 +1,8 @@
-use Rattle.std.proofs.Common.{length, suc, sym, ap, ◌∙◌, arith}
+use Rattle.std.proofs.Common.{length, sym, ap, ◌∙◌, arith}
 use Rattle.std.proofs.lemmas.List.Edits.{length-between}
 use Rattle.serialize.specs.declared.tables.Link.{Link}
 use Rattle.serialize.specs.declared.tables.Width.TheVariants.{Two}
-use Rattle.serialize.specs.Tables.{object_at, pool_to}
-use Rattle.serialize.specs.Laying.{patched}
-use Rattle.serialize.proofs.Layings.{link_at, entry-lies, patched-more, patched-all}
+use Rattle.serialize.proofs.Layings.{link_at, entry-lies}
 use Rattle.serialize.proofs.sinks.Serializer.put_object.Goals as goal
 
 abbrev blank : Link
@@ -27,16 +25,3 @@ put_field-requires c =
     let f = link_at k.work.now k.tables k.counts c.args.i k.sound c.requires.packed _ c.links-links.ensures.links c.loop-link.link-index blank c.loop-link-test.true in
     let n = ap length (c.copy_from_slice.ensures.after ∙ c.bytes.ensures.bytes) in
     record { inside = omega (arith, f.1, n, c.loop-link.auto.part) }
-
-pub loop-link-preserved : goal.loop-link-preserved
-loop-link-preserved c =
-    let k = c.args.self.now in
-    let q = pool_to k.work.now k.tables (suc c.args.i) in
-    sym (patched-more c.loop-link.part c.links-links.result.now q c.loop-link.link-index c.put_field.new.part blank c.distance.result c.loop-link-test.true c.distance.ensures.distance c.put_field.ensures.put) ∙ c.loop-link.invariant
-
-pub returns : goal.returns
-returns c =
-    let k = c.args.self.now in
-    let q = pool_to k.work.now k.tables (suc c.args.i) in
-    let b = c.copy_from_slice.ensures.after ∙ c.bytes.ensures.bytes in
-    record { patched = sym (patched-all c.loop-link.part c.links-links.result.now q c.loop-link.link-index c.loop-link-test.false) ∙ c.loop-link.invariant ∙ ap (λ x. patched x c.links-links.result.now q) b ∙ ap (λ ls. patched (object_at k.work.now k.tables c.args.i).bytes ls q) c.links-links.ensures.links }
