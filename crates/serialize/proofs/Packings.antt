@@ -208,7 +208,7 @@ module _ (w w' : List ℕ) (s : Tables) (ls : List Link) (c f : Counts) (mark : 
     once = subst (λ k. Once (pool_to w' s' k)) one (subst Once (sym pool-new) (new, sound.base.once));
   }
 
-  pub packs-new : Packs w w' s s' c (packed-counts f c) c.objects
+  packs-new : Packs w w' s s' c (packed-counts f c) c.objects
   packs-new =
       let k = stacked-kept w w' s s' len f.depth f h.stacked kept in
       let up = raised w' s' f.depth f (c.tail - (c.head - f.head)) (c.ltail - (c.lhead - f.lhead)) (c.objects + 1) k.0 (omega (arith, h.opened.tails)) (omega (arith, h.opened.link_tails)) (omega (arith, h.opened.more)) in
@@ -224,12 +224,6 @@ module _ (w w' : List ℕ) (s : Tables) (ls : List Link) (c f : Counts) (mark : 
         same = subst (λ (g : Counts). SameOpen g (packed-counts f c)) (sym h.frame) (refl, refl, refl);
         kept = subst (λ (g : Counts). Kept g w s w' s') (sym h.frame) kept;
       }
-
-packs-settled : (w w' : List ℕ) (s s' : Tables) (c f c' : Counts) (mark : ℕ) → Sound w s c → Top w s c f → Absent (open_at w s f c) (pool_to w s c.objects) → c.objects < 2048 → mark ≡ hash_of (open_at w s f c) → w' ≡ paste w (c.tail - (c.head - f.head)) (drop f.head w) (c.head - f.head) → s' ≡ settled s f c mark (paste s.links (c.ltail - (c.lhead - f.lhead)) (drop f.lhead s.links) (c.lhead - f.lhead)) → c' ≡ packed-counts f c → Packs w w' s s' c c' c.objects
-packs-settled w w' s _ c f c' mark sound h new room hashed wis sis cis =
-    subst (λ (t : Tables). Packs w w' s t c c' c.objects) (sym sis)
-    (subst (λ (d : Counts). Packs w w' s (settled s f c mark (paste s.links (c.ltail - (c.lhead - f.lhead)) (drop f.lhead s.links) (c.lhead - f.lhead))) c d c.objects) (sym cis)
-    (packs-new w w' s (paste s.links (c.ltail - (c.lhead - f.lhead)) (drop f.lhead s.links) (c.lhead - f.lhead)) c f mark sound h new room hashed wis refl))
 
 -- the top frame, as it is found
 module _ (w : List ℕ) (s : Tables) (c f : Counts) (sound : Sound w s c) (some : 0 < c.depth) (is : f ≡ start_at s (c.depth - 1)) where
@@ -252,5 +246,5 @@ module _ (w : List ℕ) (s : Tables) (c f : Counts) (sound : Sound w s c) (some 
   pub packs-found : (c' : Counts) (k : ℕ) → Stands (open_at w s f c) (pool_to w s c.objects) k → c' ≡ under f c.tail c.ltail c.objects → Packs w w s s c c' k
   packs-found c' k st e = packs-shared-to w s c f c' k sound top-at st e
 
-  pub packs-fresh : (w' : List ℕ) (s' : Tables) (c' : Counts) (mark : ℕ) → Absent (open_at w s f c) (pool_to w s c.objects) → c.objects < 2048 → mark ≡ hash_of (open_at w s f c) → w' ≡ paste w (c.tail - (c.head - f.head)) (drop f.head w) (c.head - f.head) → s' ≡ settled s f c mark (paste s.links (c.ltail - (c.lhead - f.lhead)) (drop f.lhead s.links) (c.lhead - f.lhead)) → c' ≡ packed-counts f c → Packs w w' s s' c c' c.objects
-  packs-fresh w' s' c' mark new room hashed wis sis cis = packs-settled w w' s s' c f c' mark sound top-at new room hashed wis sis cis
+  pub packs-fresh : (w' : List ℕ) (ls : List Link) (mark : ℕ) → Absent (open_at w s f c) (pool_to w s c.objects) → c.objects < 2048 → mark ≡ hash_of (open_at w s f c) → w' ≡ paste w (c.tail - (c.head - f.head)) (drop f.head w) (c.head - f.head) → ls ≡ paste s.links (c.ltail - (c.lhead - f.lhead)) (drop f.lhead s.links) (c.lhead - f.lhead) → Packs w w' s (settled s f c mark ls) c (packed-counts f c) c.objects
+  packs-fresh w' ls mark new room hashed wis lis = packs-new w w' s ls c f mark sound top-at new room hashed wis lis

@@ -1,8 +1,7 @@
 // The links of the open object.
-ghost use Rattle.std.specs.Prelude.{◌≡◌, ℕ, ◌<◌, ◌≤◌, List, Decides, OnOk};
+ghost use Rattle.std.specs.Prelude.{◌≡◌, ◌<◌, ◌≤◌, Decides, OnOk};
 ghost use Rattle.std.specs.List.{between};
 ghost use Rattle.serialize.specs.Objects.{width_of, last_end};
-ghost use Rattle.serialize.specs.Tables.{Sound, sink_of};
 ghost use Rattle.serialize.specs.Calls.{Takes};
 ghost use Rattle.serialize.specs.Sinks.{meaning, Works, LinkAdded};
 ghost use Rattle.serialize.specs.Trees.{Grafted};

@@ -1,6 +1,6 @@
 // A fresh sink, and the opening and discarding of objects.
-ghost use Rattle.std.specs.Prelude.{◌≡◌, ℕ, ◌<◌, List, [], length};
-ghost use Rattle.serialize.specs.Tables.{Sound, end, sink_of};
+ghost use Rattle.std.specs.Prelude.{◌≡◌, ℕ, ◌<◌, List};
+ghost use Rattle.serialize.specs.Tables.{Sound, end};
 ghost use Rattle.serialize.specs.Sinks.{Works, Pushed, Discards};
 
 use crate::faults::Fault;

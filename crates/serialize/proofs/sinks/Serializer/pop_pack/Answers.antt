@@ -1,5 +1,5 @@
 use Rattle.std.proofs.Common.{refl}
-use Rattle.serialize.proofs.Packings.{full, packs-found, packs-fresh}
+use Rattle.serialize.proofs.Packings.{full, packs-found}
 use Rattle.serialize.proofs.Reading.{packs-planted}
 use Rattle.serialize.proofs.sinks.Serializer.pop_pack.Goals as goal
 
@@ -21,32 +21,17 @@ returns-in-Some-find-clause-planted c = λ some.
     let o = c.in-Some.ensures.opening in
     packs-planted _ _ _ _ _ _ _ (packs-found k.work.now k.tables k.counts _ k.sound o.0 o.1 _ _ c.in-Some-find.ensures.found refl)
 
-pub invariant_of-self-then-grown-ge2048 : goal.invariant_of-self-then-grown-ge2048
-invariant_of-self-then-grown-ge2048 c =
+pub invariant_of-self-then-self-ge2048 : goal.invariant_of-self-then-self-ge2048
+invariant_of-self-then-self-ge2048 c =
     let k = c.args.self.now in
     let o = c.in-Some.ensures.opening in
-    record { sound = (full k.work.now k.tables k.counts _ k.sound o.0 o.1 c.if-grown-ge2048.true c.in_default-find.ensures.found).gone.sound }
+    record { sound = (full k.work.now k.tables k.counts _ k.sound o.0 o.1 c.if-self-ge2048.true c.in_default-find.ensures.found).gone.sound }
 
-pub returns-then-grown-ge2048-clause-packed : goal.returns-then-grown-ge2048-clause-packed
-returns-then-grown-ge2048-clause-packed c = λ some.
+pub returns-then-self-ge2048-clause-packed : goal.returns-then-self-ge2048-clause-packed
+returns-then-self-ge2048-clause-packed c = λ some.
     let k = c.args.self.now in
     let o = c.in-Some.ensures.opening in
-    full k.work.now k.tables k.counts _ k.sound o.0 o.1 c.if-grown-ge2048.true c.in_default-find.ensures.found
-
-pub invariant_of-self-2 : goal.invariant_of-self-2
-invariant_of-self-2 c =
-    let k = c.args.self.now in
-    let o = c.in-Some.ensures.opening in
-    record { sound = (packs-fresh k.work.now k.tables k.counts _ k.sound o.0 o.1 _ _ _ c.mark-mark.result c.in_default-find.ensures.found c.if-grown-ge2048.false c.mark-mark.ensures.hashed c.settle-self.ensures.work c.settle-self.ensures.tables c.settle-self.ensures.counts).sound }
-
-pub returns-clause-packed : goal.returns-clause-packed
-returns-clause-packed c = λ some.
-    let k = c.args.self.now in
-    let o = c.in-Some.ensures.opening in
-    packs-fresh k.work.now k.tables k.counts _ k.sound o.0 o.1 _ _ _ c.mark-mark.result c.in_default-find.ensures.found c.if-grown-ge2048.false c.mark-mark.ensures.hashed c.settle-self.ensures.work c.settle-self.ensures.tables c.settle-self.ensures.counts
+    full k.work.now k.tables k.counts _ k.sound o.0 o.1 c.if-self-ge2048.true c.in_default-find.ensures.found
 
 pub returns-clause-planted : goal.returns-clause-planted
-returns-clause-planted c = λ some.
-    let k = c.args.self.now in
-    let o = c.in-Some.ensures.opening in
-    packs-planted _ _ _ _ _ _ _ (packs-fresh k.work.now k.tables k.counts _ k.sound o.0 o.1 _ _ _ c.mark-mark.result c.in_default-find.ensures.found c.if-grown-ge2048.false c.mark-mark.ensures.hashed c.settle-self.ensures.work c.settle-self.ensures.tables c.settle-self.ensures.counts)
+returns-clause-planted c = λ some. packs-planted _ _ _ _ _ _ _ c.settle.ensures.packed
