@@ -1,14 +1,15 @@
 // The links of the open object.
-ghost use Rattle.std.specs.Prelude.{◌≡◌, ◌<◌, ◌≤◌, Decides, OnOk};
+ghost use Rattle.std.specs.Prelude.{◌≡◌, length, Decides, OnOk};
 ghost use Rattle.std.specs.List.{between};
 ghost use Rattle.serialize.specs.Objects.{width_of, last_end};
+ghost use Rattle.serialize.specs.Tables.{Over};
 ghost use Rattle.serialize.specs.Calls.{Takes};
 ghost use Rattle.serialize.specs.Sinks.{meaning, Works, LinkAdded};
 ghost use Rattle.serialize.specs.Trees.{Grafted};
 
 use crate::faults::Fault;
 use crate::sinks::Serializer;
-use crate::tables::{Counts, Link, Tables, Width};
+use crate::tables::{Counts, Link, Width};
 
 impl Width {
     // How many bytes a field of this width has.
@@ -19,21 +20,19 @@ impl Width {
     }
 }
 
-impl Tables {
-    // Where the last field of the object that is open from `start` to `counts` ends.
-    pub(crate) fn last_end(&self, start: Counts, counts: Counts) -> u64
-        requires links { counts.lhead ≤ 4096 }
-        ensures end { result ≡ last_end 0 (between start.lhead counts.lhead self.now.links) }
-    {
-        if start.lhead >= counts.lhead {
-            return 0;
-        }
-        let last = self.links[counts.lhead as usize - 1];
-        last.position as u64 + last.width.size() as u64
-    }
-}
-
 impl Serializer<'_> {
+    // Where the last field of the object open from `start` on ends.
+    pub(crate) fn last_end(&self, start: Counts) -> u64
+        requires over { Over start self.now.counts (length self.now.work.now) }
+        ensures end { result ≡ last_end 0 (between start.lhead self.now.counts.lhead self.now.tables.links) }
+    {
+        let (_, links) = self.since(start);
+        match links.last() {
+            Some(last) => last.position as u64 + last.width.size() as u64,
+            None => 0,
+        }
+    }
+
     // Whether the top object has a free field for the link after its other ones, and the target is packed.
     pub(crate) fn takes(&self, link: Link) -> bool
         ensures takes { Decides result (Takes self.now.tables self.now.counts link) }
@@ -45,8 +44,7 @@ impl Serializer<'_> {
             return false;
         }
         let end = start.head as u64 + link.position as u64 + link.width.size() as u64;
-        end <= self.counts.head as u64
-            && self.tables.last_end(start, self.counts) <= link.position as u64
+        end <= self.counts.head as u64 && self.last_end(start) <= link.position as u64
     }
 
     // Adds a link to the top object. Its field has to lie in the object's bytes, past the fields of the links before
