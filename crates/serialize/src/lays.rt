@@ -74,7 +74,8 @@ impl Serializer<'_> {
         (0..self.counts.objects).all(|i| self.short(i))
     }
 
-    // Writes every packed object to its place.
+    // Writes every packed object to its place. An iterator over the entries would be no plainer, since each is written
+    // by its number.
     pub(crate) fn lay_all(&self, out: &mut [u8])
         requires room { size (meaning self.now).pool ≤ length out.old }
         ensures laid { out.new ≡ laid (meaning self.now).pool ++ drop (size (meaning self.now).pool) out.old }

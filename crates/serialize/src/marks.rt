@@ -7,6 +7,7 @@ ghost use Rattle.serialize.specs.Single.{Sound-prop};
 use crate::sinks::Serializer;
 use crate::tables::Counts;
 
+// `kept` is set at the end of a record, so that every early end before it takes the record back.
 pub struct Mark<'a, 'w> {
     pub sink: &'a mut Serializer<'w>,
     pub saved: Counts,
