@@ -1,3 +1,5 @@
 pub mod Format
 pub mod Places
 pub mod Opening
+pub mod Spots
+pub mod Standings

@@ -1,3 +1,8 @@
+// The kinds of counted table, by how their bytes are laid out.
+ghost use Rattle.table.specs.Format.{list_layout, script_layout, lang_sys_layout, feature_layout, condition_set_layout, substitution_layout};
+ghost use Rattle.table.specs.Places.{Small};
+ghost use Rattle.std.proofs.Common.{lit≤};
+
 // A counted table is one whose fields end with a 16-bit count of the entries that follow: `head` bytes stand before the
 // count, and each entry has `width` bytes.
 #[derive(Clone, Copy)]
@@ -6,15 +11,80 @@ pub(crate) struct Layout {
     pub(crate) width: usize,
 }
 
+// A kind of counted table.
+pub(crate) trait Part: Drop {
+    ghost use Rattle.table.specs.declared.layouts.Layout.{Layout};
+
+    const LAYOUT: Layout;
+
+    ghost LAYOUT: { Layout };
+
+    ghost small: { Small LAYOUT };
+}
+
 // A ScriptList or a FeatureList.
-pub(crate) const LIST: Layout = Layout { head: 0, width: 6 };
+#[derive(Drop)]
+pub(crate) struct List;
 
-pub(crate) const SCRIPT: Layout = Layout { head: 2, width: 6 };
+impl Part for List {
+    const LAYOUT: Layout = Layout { head: 0, width: 6 };
 
-pub(crate) const LANG_SYS: Layout = Layout { head: 4, width: 2 };
+    ghost LAYOUT = { list_layout };
 
-pub(crate) const FEATURE: Layout = Layout { head: 2, width: 2 };
+    ghost small = { (lit≤ tt, lit≤ tt, lit≤ tt) };
+}
 
-pub(crate) const CONDITION_SET: Layout = Layout { head: 0, width: 4 };
+#[derive(Drop)]
+pub(crate) struct Script;
 
-pub(crate) const SUBSTITUTION: Layout = Layout { head: 4, width: 6 };
+impl Part for Script {
+    const LAYOUT: Layout = Layout { head: 2, width: 6 };
+
+    ghost LAYOUT = { script_layout };
+
+    ghost small = { (lit≤ tt, lit≤ tt, lit≤ tt) };
+}
+
+#[derive(Drop)]
+pub(crate) struct System;
+
+impl Part for System {
+    const LAYOUT: Layout = Layout { head: 4, width: 2 };
+
+    ghost LAYOUT = { lang_sys_layout };
+
+    ghost small = { (lit≤ tt, lit≤ tt, lit≤ tt) };
+}
+
+#[derive(Drop)]
+pub(crate) struct Feature;
+
+impl Part for Feature {
+    const LAYOUT: Layout = Layout { head: 2, width: 2 };
+
+    ghost LAYOUT = { feature_layout };
+
+    ghost small = { (lit≤ tt, lit≤ tt, lit≤ tt) };
+}
+
+#[derive(Drop)]
+pub(crate) struct ConditionSet;
+
+impl Part for ConditionSet {
+    const LAYOUT: Layout = Layout { head: 0, width: 4 };
+
+    ghost LAYOUT = { condition_set_layout };
+
+    ghost small = { (lit≤ tt, lit≤ tt, lit≤ tt) };
+}
+
+#[derive(Drop)]
+pub(crate) struct Substitutions;
+
+impl Part for Substitutions {
+    const LAYOUT: Layout = Layout { head: 4, width: 6 };
+
+    ghost LAYOUT = { substitution_layout };
+
+    ghost small = { (lit≤ tt, lit≤ tt, lit≤ tt) };
+}

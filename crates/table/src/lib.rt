@@ -3,11 +3,13 @@
 
 mod answers;
 mod bytes;
+mod counted;
 mod fields;
 mod layouts;
 mod located;
 mod opening;
 mod places;
 mod reads;
+mod variations;
 
 pub use bytes::Table;

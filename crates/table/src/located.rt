@@ -1,152 +1,134 @@
 // Where each table lies, by its place in the lists above it.
-ghost use Rattle.std.specs.Prelude.{◌≡◌, ◌+◌, ◌^◌, ◌<◌, ◌≤◌, length};
-ghost use Rattle.table.specs.Format.{list_layout, script_layout, lang_sys_layout, feature_layout, condition_set_layout, substitution_layout, u16_at, u32_at, script_list_place, feature_list_place, variations_led, variations_place};
-ghost use Rattle.table.specs.Places.{Small, Inside, InsideVariations, script_place, default_led, lang_sys_place, variation_led, condition_set_place, substitution_place, alternate_place, feature_place};
+ghost use Rattle.std.specs.Prelude.{◌≡◌, ◌+◌, ◌*◌, ◌≤◌, cond, nat_lt};
+ghost use Rattle.source.specs.declared.parts.Standing.TheVariants.{Absent};
+ghost use Rattle.table.specs.Format.{list_layout, lang_sys_layout, substitution_layout, feature_layout, u16_at, u32_at, led, script_list_place, feature_list_place, variations_place};
+ghost use Rattle.table.specs.Places.{at_entry, script_place, lang_sys_place, condition_set_place, substitution_place, feature_place};
+ghost use Rattle.table.specs.Spots.{placed, spots, variations_spots, found};
 
+use crate::counted::Counted;
 use crate::fields::{u16_at, u32_at};
-use crate::layouts::{CONDITION_SET, FEATURE, LANG_SYS, LIST, Layout, SCRIPT, SUBSTITUTION};
-use crate::places::{entry, led_to, record_led_to};
+use crate::layouts::{ConditionSet, Feature, List, Part, Script, Substitutions, System};
+use crate::places::record_led_to;
+use crate::variations::VariationList;
 use source::{FeaturePlace, LangSysPlace, Standing};
 
-pub(crate) fn script_list(bytes: &[u8]) -> Standing<usize>
-    ensures value { result ≡ script_list_place bytes.now }
-    ensures inside { Inside bytes.now list_layout result }
+// The list that the offset at a place of the header leads to.
+fn list(bytes: &[u8], place: usize) -> Standing<Counted<'_, List>>
+    requires { place ≤ 6 }
+    ensures { spots result ≡ placed bytes.now (led bytes.now list_layout 0 (u16_at bytes.now place)) }
 {
-    let offset = u16_at(bytes, 4);
-    led_to(bytes, LIST, 0, offset as usize)
+    Counted::led_to(bytes, 0, u16_at(bytes, place) as usize)
 }
 
-pub(crate) fn feature_list(bytes: &[u8]) -> Standing<usize>
-    ensures value { result ≡ feature_list_place bytes.now }
-    ensures inside { Inside bytes.now list_layout result }
+pub(crate) fn script_list(bytes: &[u8]) -> Standing<Counted<'_, List>>
+    ensures { spots result ≡ placed bytes.now (script_list_place bytes.now) }
 {
-    let offset = u16_at(bytes, 6);
-    led_to(bytes, LIST, 0, offset as usize)
+    list(bytes, 4)
 }
 
-pub(crate) fn script(bytes: &[u8], at: u16) -> Standing<usize>
-    ensures value { result ≡ script_place bytes.now at }
-    ensures inside { Inside bytes.now script_layout result }
+pub(crate) fn feature_list(bytes: &[u8]) -> Standing<Counted<'_, List>>
+    ensures { spots result ≡ placed bytes.now (feature_list_place bytes.now) }
 {
-    record_led_to(bytes, LIST, script_list(bytes), at, SCRIPT)
+    list(bytes, 6)
 }
 
-// The default language system of the script at a place.
-fn default_lang_sys(bytes: &[u8], list: Standing<usize>) -> Standing<usize>
-    requires { Inside bytes.now script_layout list }
-    ensures value { result ≡ default_led bytes.now list }
-    ensures inside { Inside bytes.now lang_sys_layout result }
+#[tactic(auto, using(crate::proofs::Spots::record_found))]
+pub(crate) fn script(bytes: &[u8], at: u16) -> Standing<Counted<'_, Script>>
+    ensures { spots result ≡ placed bytes.now (script_place bytes.now at) }
 {
-    let Standing::There(p) = list else {
+    record_led_to(script_list(bytes), at)
+}
+
+// The default language system of a script.
+#[tactic(auto, using(crate::proofs::Spots::first_field))]
+fn default_lang_sys(script: Standing<Counted<'_, Script>>) -> Standing<Counted<'_, System>>
+    ensures { spots result ≡ found (spots script.entry) Absent (λ b p. placed b (led b lang_sys_layout p (u16_at b p))) }
+{
+    let Some(script) = script.there() else {
         return Standing::Absent;
     };
-    let offset = u16_at(bytes, p);
-    led_to(bytes, LANG_SYS, p, offset as usize)
+    script.follow(script.short(0) as usize)
 }
 
-pub(crate) fn lang_sys(bytes: &[u8], at: LangSysPlace) -> Standing<usize>
-    ensures value { result ≡ lang_sys_place bytes.now at }
-    ensures inside { Inside bytes.now lang_sys_layout result }
+#[tactic(auto, using(crate::proofs::Spots::record_found, crate::proofs::Spots::default_found))]
+pub(crate) fn lang_sys(bytes: &[u8], at: LangSysPlace) -> Standing<Counted<'_, System>>
+    ensures { spots result ≡ placed bytes.now (lang_sys_place bytes.now at) }
 {
     match at {
-        LangSysPlace::Default { script: s } => default_lang_sys(bytes, script(bytes, s)),
+        LangSysPlace::Default { script: s } => default_lang_sys(script(bytes, s)),
         LangSysPlace::Record {
             script: s,
             lang_sys: l,
-        } => record_led_to(bytes, SCRIPT, script(bytes, s), l, LANG_SYS),
+        } => record_led_to(script(bytes, s), l),
     }
 }
 
-// The variation list at an offset from the table's start.
-fn variations_at(bytes: &[u8], offset: usize) -> Standing<usize>
-    requires { offset < 2 ^ 32 }
-    ensures value { result ≡ variations_led bytes.now offset }
-    ensures inside { InsideVariations bytes.now result }
-{
-    if offset == 0 {
-        return Standing::Absent;
-    }
-    let count = u32_at(bytes, offset + 4) as usize;
-    if offset + 8 + 8 * count > bytes.len() {
-        return Standing::Unreadable;
-    }
-    Standing::There(offset)
-}
-
-pub(crate) fn variations(bytes: &[u8]) -> Standing<usize>
-    ensures value { result ≡ variations_place bytes.now }
-    ensures inside { InsideVariations bytes.now result }
+pub(crate) fn variations(bytes: &[u8]) -> Standing<VariationList<'_>>
+    ensures { variations_spots result ≡ placed bytes.now (variations_place bytes.now) }
 {
     if u16_at(bytes, 2) == 0 {
         return Standing::Absent;
     }
-    let offset = u32_at(bytes, 10);
-    variations_at(bytes, offset as usize)
+    VariationList::led_to(bytes, u32_at(bytes, 10) as usize)
 }
 
 // Where the offset of a variation record leads, of which the first four bytes are the condition set's offset and the
 // next four, `from` 4, that of the substitution table.
-fn variation_led_to(bytes: &[u8], at: u32, from: usize, to: Layout) -> Standing<usize>
-    requires small { Small to }
-    requires within { from ≤ 4 }
-    ensures value { result ≡ variation_led bytes.now at from to }
-    ensures inside { Inside bytes.now to result }
+fn variation_led_to<P: Part>(
+    list: Standing<VariationList<'_>>,
+    at: u32,
+    from: usize,
+) -> Standing<Counted<'_, P>>
+    requires { from ≤ 4 }
+    ensures { spots result ≡ found (variations_spots list.entry) Absent (λ b p. cond (nat_lt at (u32_at b (p + 4))) (placed b (led b P.LAYOUT p (u32_at b (p + 8 + 8 * at + from)))) Absent) }
 {
-    let Standing::There(p) = variations(bytes) else {
+    let Some(list) = list.there() else {
         return Standing::Absent;
     };
-    if at >= u32_at(bytes, p + 4) {
+    if at >= list.len() {
         return Standing::Absent;
     }
-    let offset = u32_at(bytes, p + 8 + 8 * at as usize + from);
-    led_to(bytes, to, p, offset as usize)
+    let offset = u32_at(list.bytes, list.at + 8 + 8 * at as usize + from);
+    Counted::led_to(list.bytes, list.at, offset as usize)
 }
 
-pub(crate) fn condition_set(bytes: &[u8], at: u32) -> Standing<usize>
-    ensures value { result ≡ condition_set_place bytes.now at }
-    ensures inside { Inside bytes.now condition_set_layout result }
+#[tactic(auto, using(crate::proofs::Spots::variation_found))]
+pub(crate) fn condition_set(bytes: &[u8], at: u32) -> Standing<Counted<'_, ConditionSet>>
+    ensures { spots result ≡ placed bytes.now (condition_set_place bytes.now at) }
 {
-    variation_led_to(bytes, at, 0, CONDITION_SET)
+    variation_led_to(variations(bytes), at, 0)
 }
 
-pub(crate) fn substitution(bytes: &[u8], at: u32) -> Standing<usize>
-    ensures value { result ≡ substitution_place bytes.now at }
-    ensures inside { Inside bytes.now substitution_layout result }
+#[tactic(auto, using(crate::proofs::Spots::variation_found))]
+pub(crate) fn substitution(bytes: &[u8], at: u32) -> Standing<Counted<'_, Substitutions>>
+    ensures { spots result ≡ placed bytes.now (substitution_place bytes.now at) }
 {
-    variation_led_to(bytes, at, 4, SUBSTITUTION)
+    variation_led_to(variations(bytes), at, 4)
 }
 
-// The alternate feature that a record of the substitution table at a place names.
-fn alternate(bytes: &[u8], list: Standing<usize>, k: u16) -> Standing<usize>
-    requires { Inside bytes.now substitution_layout list }
-    ensures value { result ≡ alternate_place bytes.now list k }
-    ensures inside { Inside bytes.now feature_layout result }
+// The alternate feature that a record of a substitution table names.
+fn alternate(list: Standing<Counted<'_, Substitutions>>, k: u16) -> Standing<Counted<'_, Feature>>
+    ensures { spots result ≡ found (spots list.entry) Absent (λ b p. at_entry b substitution_layout p k Absent (λ e. placed b (led b feature_layout p (u32_at b (e + 2))))) }
 {
-    let Standing::There(p) = list else {
+    let Some(list) = list.there() else {
         return Standing::Absent;
     };
-    let Some(e) = entry(bytes, SUBSTITUTION, p, k) else {
+    let Some(e) = list.entry(k) else {
         return Standing::Absent;
     };
-    let offset = u32_at(bytes, e + 2);
-    led_to(bytes, FEATURE, p, offset as usize)
+    let offset = u32_at(list.bytes, e + 2);
+    list.follow(offset as usize)
 }
 
-pub(crate) fn feature(bytes: &[u8], at: FeaturePlace) -> Standing<usize>
-    ensures value { result ≡ feature_place bytes.now at }
-    ensures inside { Inside bytes.now feature_layout result }
+#[tactic(auto, using(crate::proofs::Spots::record_found, crate::proofs::Spots::alternate_found))]
+pub(crate) fn feature(bytes: &[u8], at: FeaturePlace) -> Standing<Counted<'_, Feature>>
+    ensures { spots result ≡ placed bytes.now (feature_place bytes.now at) }
 {
     match at {
-        FeaturePlace::Listed { feature: i } => record_led_to(
-            bytes,
-            LIST,
-            feature_list(bytes),
-            i,
-            FEATURE,
-        ),
+        FeaturePlace::Listed { feature: i } => record_led_to(feature_list(bytes), i),
         FeaturePlace::Alternate {
             variation: v,
             substitution: k,
-        } => alternate(bytes, substitution(bytes, v), k),
+        } => alternate(substitution(bytes, v), k),
     }
 }

@@ -1,15 +1,18 @@
-// What stands at a place: conditions and parameters.
+// What is read of a table that was found: conditions, parameters, and what it says besides its entries.
 ghost use Rattle.std.specs.Prelude.{◌≡◌, ◌+◌, ◌^◌, ◌<◌, ◌≤◌, length};
 ghost use Rattle.source.specs.Standings.{mapped};
 ghost use Rattle.source.specs.Questions.{params_meaning};
-ghost use Rattle.table.specs.Format.{lang_sys_layout, feature_layout, condition_set_layout, substitution_layout, condition_by_format, condition_entry_at, listed_params, params_at, alternate_params};
 ghost use Rattle.source.specs.declared.parts.Standing.TheVariants.{Absent};
-ghost use Rattle.table.specs.Places.{Inside, InsideVariations, entry_of, params_of_place, lang_sys_fields, variations_fields, substitution_fields};
+ghost use Rattle.table.specs.Format.{condition_set_layout, bytes_at, whole, condition_by_format, condition_entry_at, listed_params, params_at, alternate_params};
+ghost use Rattle.table.specs.Places.{at_entry, feature_place, params_of_place, lang_sys_fields, variations_fields, substitution_fields};
+ghost use Rattle.table.specs.Spots.{spots, variations_spots, found};
 
+use crate::counted::Counted;
 use crate::fields::{u16_at, u32_at};
-use crate::layouts::{CONDITION_SET, LIST};
-use crate::located::feature_list;
-use crate::places::{entry, tag_of};
+use crate::layouts::{ConditionSet, Feature, Substitutions, System};
+use crate::located;
+use crate::places::{mapped, tag_of};
+use crate::variations::VariationList;
 use keys::Tag;
 use source::{Condition, FeatureParams, FeaturePlace, LangSys, Standing, Substitution, Variations};
 
@@ -18,54 +21,56 @@ fn condition_by_format(bytes: &[u8], format: u16, at: usize) -> Standing<Conditi
     requires { at + 8 < 2 ^ 64 }
     ensures { result ≡ condition_by_format bytes.now format at }
 {
-    if format == 1 {
-        if at + 8 > bytes.len() {
-            return Standing::Unreadable;
-        }
-        let axis = u16_at(bytes, at + 2);
-        let minimum = u16_at(bytes, at + 4);
-        let maximum = u16_at(bytes, at + 6);
-        return Standing::There(Condition::Format1 {
-            axis,
-            minimum,
-            maximum,
-        });
+    match format {
+        1 if at + 8 > bytes.len() => Standing::Unreadable,
+        1 => Standing::There(Condition::Format1 {
+            axis: u16_at(bytes, at + 2),
+            minimum: u16_at(bytes, at + 4),
+            maximum: u16_at(bytes, at + 6),
+        }),
+        2..=5 => Standing::There(Condition::Other),
+        _ => Standing::Unreadable,
     }
-    if format >= 2 && format <= 5 {
-        return Standing::There(Condition::Other);
-    }
-    Standing::Unreadable
 }
 
-// The condition that the offset at an entry of the condition set at `base` leads to.
-fn condition_at(bytes: &[u8], base: usize, e: usize) -> Standing<Condition>
-    requires base_held { base ≤ length bytes.now }
-    requires entry_held { e ≤ length bytes.now }
-    ensures { result ≡ condition_entry_at bytes.now base e }
+// The condition that the offset at an entry of a condition set leads to.
+fn condition_at(set: &Counted<'_, ConditionSet>, e: usize) -> Standing<Condition>
+    requires { e ≤ length set.now.bytes.now }
+    ensures { result ≡ condition_entry_at set.now.bytes.now set.now.at e }
 {
-    let offset = u32_at(bytes, e) as usize;
+    let offset = u32_at(set.bytes, e) as usize;
     if offset == 0 {
         return Standing::Absent;
     }
-    let at = base + offset;
-    if at + 2 > bytes.len() {
+    let at = set.at + offset;
+    if at + 2 > set.bytes.len() {
         return Standing::Unreadable;
     }
-    condition_by_format(bytes, u16_at(bytes, at), at)
+    condition_by_format(set.bytes, u16_at(set.bytes, at), at)
 }
 
 // The condition at an entry of a condition set.
-pub(crate) fn condition_of(bytes: &[u8], list: Standing<usize>, k: u16) -> Standing<Condition>
-    requires { Inside bytes.now condition_set_layout list }
-    ensures { result ≡ entry_of bytes.now condition_set_layout list k Absent (condition_entry_at bytes.now) }
+pub(crate) fn condition_of(set: Standing<Counted<'_, ConditionSet>>, k: u16) -> Standing<Condition>
+    ensures { result ≡ found (spots set.entry) Absent (λ b p. at_entry b condition_set_layout p k Absent (condition_entry_at b p)) }
 {
-    let Standing::There(p) = list else {
+    let Some(set) = set.there() else {
         return Standing::Absent;
     };
-    let Some(e) = entry(bytes, CONDITION_SET, p, k) else {
+    let Some(e) = set.entry(k) else {
         return Standing::Absent;
     };
-    condition_at(bytes, p, e)
+    condition_at(&set, e)
+}
+
+// So many bytes from a place.
+fn lent(bytes: &[u8], at: usize, size: usize) -> Standing<&[u8]>
+    requires { at + size < 2 ^ 64 }
+    ensures { mapped (λ s. s.now) result ≡ mapped (λ p. bytes_at bytes.now p size) (whole bytes.now size at) }
+{
+    match bytes.get(at..at + size) {
+        Some(part) => Standing::There(part),
+        None => Standing::Unreadable,
+    }
 }
 
 // The parameters at a place, by the feature's tag.
@@ -73,115 +78,102 @@ fn params_at(bytes: &[u8], tag: Tag, at: usize) -> Standing<FeatureParams<'_>>
     requires { at < 2 ^ 63 + 2 ^ 32 }
     ensures { mapped params_meaning result ≡ params_at bytes.now tag.code at }
 {
-    if tag.code == 0x73697A65 {
-        if at + 10 > bytes.len() {
-            return Standing::Unreadable;
+    match tag.to_bytes() {
+        [b's', b'i', b'z', b'e'] => mapped(lent(bytes, at, 10), FeatureParams::Size),
+        [b's', b's', ..] => mapped(lent(bytes, at, 4), FeatureParams::StylisticSet),
+        [b'c', b'v', ..] => {
+            let count = u16_at(bytes, at + 12) as usize;
+            mapped(
+                lent(bytes, at, 14 + 3 * count),
+                FeatureParams::CharacterVariant,
+            )
         }
-        return Standing::There(FeatureParams::Size(&bytes[at..at + 10]));
+        _ => Standing::Unreadable,
     }
-    let prefix = tag.code / 65536;
-    if prefix == 0x7373 {
-        if at + 4 > bytes.len() {
-            return Standing::Unreadable;
-        }
-        return Standing::There(FeatureParams::StylisticSet(&bytes[at..at + 4]));
-    }
-    if prefix == 0x6376 {
-        let count = u16_at(bytes, at + 12) as usize;
-        let end = at + 14 + 3 * count;
-        if end > bytes.len() {
-            return Standing::Unreadable;
-        }
-        return Standing::There(FeatureParams::CharacterVariant(&bytes[at..end]));
-    }
-    Standing::Unreadable
 }
 
-// The parameters of the listed feature at `at`, which has that tag.
-fn listed_params(bytes: &[u8], tag: Tag, at: usize) -> Standing<FeatureParams<'_>>
-    requires { at ≤ length bytes.now }
-    ensures { mapped params_meaning result ≡ listed_params bytes.now tag.code at }
+// The parameters of a listed feature, which has that tag.
+#[tactic(auto, using(crate::proofs::Spots::first_field))]
+fn listed_params<'a>(
+    feature: Standing<Counted<'a, Feature>>,
+    tag: Tag,
+) -> Standing<FeatureParams<'a>>
+    ensures { mapped params_meaning result ≡ found (spots feature.entry) Absent (λ b p. listed_params b tag.code p) }
 {
-    let offset = u16_at(bytes, at);
+    let Some(feature) = feature.there() else {
+        return Standing::Absent;
+    };
+    let offset = feature.short(0);
     if offset == 0 {
         return Standing::Absent;
     }
-    params_at(bytes, tag, at + offset as usize)
+    params_at(feature.bytes, tag, feature.at + offset as usize)
 }
 
-// The parameters of the alternate feature at `at`, which cannot be read.
-fn alternate_params(bytes: &[u8], at: usize) -> Standing<FeatureParams<'_>>
-    requires { at ≤ length bytes.now }
-    ensures { mapped params_meaning result ≡ alternate_params bytes.now at }
+// The parameters of an alternate feature, which cannot be read.
+fn alternate_params<'a>(feature: Standing<Counted<'a, Feature>>) -> Standing<FeatureParams<'a>>
+    ensures { mapped params_meaning result ≡ found (spots feature.entry) Absent alternate_params }
 {
-    if u16_at(bytes, at) == 0 {
+    let Some(feature) = feature.there() else {
+        return Standing::Absent;
+    };
+    if feature.short(0) == 0 {
         return Standing::Absent;
     }
     Standing::Unreadable
 }
 
-// The parameters of the feature that was asked for, at the place where it stands.
-pub(crate) fn params_of(
-    bytes: &[u8],
-    at: FeaturePlace,
-    place: Standing<usize>,
-) -> Standing<FeatureParams<'_>>
-    requires { Inside bytes.now feature_layout place }
-    ensures { mapped params_meaning result ≡ params_of_place bytes.now at place }
+// The parameters of the feature that is asked for.
+#[tactic(auto, using(crate::proofs::Spots::tag_found, crate::proofs::Spots::listed_params_found, crate::proofs::Spots::alternate_params_found))]
+pub(crate) fn params_of(bytes: &[u8], at: FeaturePlace) -> Standing<FeatureParams<'_>>
+    ensures { mapped params_meaning result ≡ params_of_place bytes.now at (feature_place bytes.now at) }
 {
-    let Standing::There(p) = place else {
-        return Standing::Absent;
-    };
+    let place = located::feature(bytes, at);
     match at {
         FeaturePlace::Listed { feature } => {
-            let tag = tag_of(bytes, LIST, feature_list(bytes), feature);
-            listed_params(bytes, tag, p)
+            listed_params(place, tag_of(located::feature_list(bytes), feature))
         }
-        FeaturePlace::Alternate { .. } => alternate_params(bytes, p),
+        FeaturePlace::Alternate { .. } => alternate_params(place),
     }
 }
 
 // What a language system says besides its indices.
-pub(crate) fn lang_sys_head(bytes: &[u8], place: Standing<usize>) -> Standing<LangSys>
-    requires { Inside bytes.now lang_sys_layout place }
-    ensures { result ≡ mapped (lang_sys_fields bytes.now) place }
+pub(crate) fn lang_sys_head(system: Standing<Counted<'_, System>>) -> Standing<LangSys>
+    ensures { result ≡ mapped (λ s. lang_sys_fields s.bytes s.at) (spots system.entry) }
 {
-    match place {
-        Standing::There(p) => Standing::There(LangSys {
-            required: u16_at(bytes, p + 2),
-            count: u16_at(bytes, p + 4),
-        }),
-        Standing::Unreadable => Standing::Unreadable,
-        Standing::Absent => Standing::Absent,
-    }
+    mapped(
+        system,
+        |system| LangSys {
+            required: system.short(2),
+            count: system.len(),
+        },
+    )
 }
 
 // The version and the count of a variation list.
-pub(crate) fn variations_head(bytes: &[u8], place: Standing<usize>) -> Standing<Variations>
-    requires { InsideVariations bytes.now place }
-    ensures { result ≡ mapped (variations_fields bytes.now) place }
+pub(crate) fn variations_head(list: Standing<VariationList<'_>>) -> Standing<Variations>
+    ensures { result ≡ mapped (λ s. variations_fields s.bytes s.at) (variations_spots list.entry) }
 {
-    match place {
-        Standing::There(p) => Standing::There(Variations {
-            version: u32_at(bytes, p),
-            count: u32_at(bytes, p + 4),
-        }),
-        Standing::Unreadable => Standing::Unreadable,
-        Standing::Absent => Standing::Absent,
-    }
+    mapped(
+        list,
+        |list| Variations {
+            version: u32_at(list.bytes, list.at),
+            count: list.len(),
+        },
+    )
 }
 
 // The version and the count of a substitution table.
-pub(crate) fn substitution_head(bytes: &[u8], place: Standing<usize>) -> Standing<Substitution>
-    requires { Inside bytes.now substitution_layout place }
-    ensures { result ≡ mapped (substitution_fields bytes.now) place }
+pub(crate) fn substitution_head(
+    table: Standing<Counted<'_, Substitutions>>,
+) -> Standing<Substitution>
+    ensures { result ≡ mapped (λ s. substitution_fields s.bytes s.at) (spots table.entry) }
 {
-    match place {
-        Standing::There(p) => Standing::There(Substitution {
-            version: u32_at(bytes, p),
-            count: u16_at(bytes, p + 4),
-        }),
-        Standing::Unreadable => Standing::Unreadable,
-        Standing::Absent => Standing::Absent,
-    }
+    mapped(
+        table,
+        |table| Substitution {
+            version: u32_at(table.bytes, table.at),
+            count: table.len(),
+        },
+    )
 }
