@@ -1,7 +1,7 @@
 -- The parts of a source's reading, by its rows.
 use Rattle.std.proofs.Common.{◌≡◌, ℕ, ◌≤◌, List, map, length, get_or, take, Some, None, Option, sym, refl, ap, ◌∙◌}
-use Rattle.source.specs.Questions.{lang_sys_records, no_feature, feature, params_of}
-use Rattle.source.specs.Reading.{FeatureRecord}
+use Rattle.source.specs.Questions.{script_record, lang_sys_records, no_lang_sys, lang_sys_record, no_feature, feature, params_of}
+use Rattle.source.specs.Reading.{ScriptRecord, FeatureRecord}
 use Rattle.source.specs.Standings.{listed}
 use Rattle.source.specs.declared.parts.FeaturePlace.{FeaturePlace}
 use Rattle.source.specs.declared.parts.FeaturePlace.TheVariants.{Listed, Alternate}
@@ -10,7 +10,7 @@ use Rattle.std.proofs.lemmas.List.{take_all}
 use Rattle.std.specs.List.{slice_get}
 use Rattle.rows.proofs.Picks.{getD-map-nth, getD-value_by}
 use Rattle.rows.proofs.Standings.{mapped-by}
-use Rattle.rows.specs.Format.{ranged, value_by, feature_table, read_feature, read_feature_record, read_lang_sys_record, script_table, read_script}
+use Rattle.rows.specs.Format.{ranged, value_by, feature_table, read_feature, read_feature_record, read_lang_sys_record, script_table, read_script, read_script_record}
 use Rattle.rows.specs.Held.{reading_of}
 use Rattle.rows.specs.Sizes.{most_rows}
 use Rattle.rows.specs.declared.row.FeatureRow.{FeatureRow}
@@ -30,9 +30,20 @@ module _ (pool : List ℕ) (r : FeatureRow) where
   feature-plain = mapped-by feature_table params_of (λ _. Absent) refl refl (λ _. refl) (ranged pool r.first r.count)
 
 -- the row that a record was read from
-module _ {X Y : Type 0} (f : X → Y) (e : Y) (xs ys : List X) (at : ℕ) (o : Option X) where
-  pub row_of : o ≡ slice_get ys at → ys ≡ take most_rows xs → value_by f e o ≡ get_or (map f (take most_rows xs)) at e
-  row_of h cut = sym (getD-value_by f e (take most_rows xs) at o (h ∙ ap (λ zs. slice_get zs at) cut))
+
+pub row_of : {X Y : Type 0} (f : X → Y) (e : Y) (xs : List X) (at : ℕ) (o : Option X) → o ≡ slice_get (take most_rows xs) at
+    → value_by f e o ≡ get_or (map f (take most_rows xs)) at e
+row_of f e xs at o h = sym (getD-value_by f e (take most_rows xs) at o h)
+
+pub record_at : (v : Rows) (s : ScriptRow) (at k : ℕ) (o : Option LangSysRow)
+    → read_script_record v.pool.now v.systems.now s ≡ script_record (reading_of v) at
+    → o ≡ slice_get (listed (ranged v.systems.now s.first s.count)) k
+    → value_by (read_lang_sys_record v.pool.now) no_lang_sys o ≡ lang_sys_record (reading_of v) at k
+record_at v s at k o is h =
+    sym
+    (ap (λ rs. get_or rs k no_lang_sys)
+    (ap (λ (t : ScriptRecord). lang_sys_records t.table) (sym is) ∙ script-records v.pool.now v.systems.now s)
+    ∙ getD-value_by (read_lang_sys_record v.pool.now) no_lang_sys (listed (ranged v.systems.now s.first s.count)) k o h)
 
 pub tables : (pool : List ℕ) (o : Option FeatureRow) → value_by (read_feature pool) Absent o ≡ (value_by (read_feature_record pool) no_feature o).table
 tables pool None = refl

@@ -2,3 +2,4 @@ pub mod Sizes
 pub mod Format
 pub mod Held
 pub mod Builtin
+pub mod Standings

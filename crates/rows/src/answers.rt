@@ -5,7 +5,7 @@ ghost use Rattle.source.specs.Questions.{script_record, no_script, script, defau
 ghost use Rattle.rows.specs.Format.{bound, value_by, read_feature, read_feature_record, read_lang_sys, read_lang_sys_record, read_script_record};
 ghost use Rattle.rows.specs.Held.{reading_of};
 
-use crate::ranges::{capped, numbered_row, range_at, range_count, row_at, within};
+use crate::ranges::{and_then, capped, range_at, row_at};
 use crate::row::{FeatureRow, LangSysRow, ScriptRow};
 use crate::slices::Rows;
 use keys::Tag;
@@ -15,17 +15,16 @@ use source::{
 };
 
 // What a language system row says besides its feature indices.
-fn head(pool: &[u16], l: LangSysRow) -> Standing<LangSys>
-    ensures { result ≡ mapped lang_sys_head (read_lang_sys pool.now l) }
+fn head(pool: &[u16], system: LangSysRow) -> Standing<LangSys>
+    ensures { result ≡ mapped lang_sys_head (read_lang_sys pool.now system) }
 {
-    if within(l.first, l.count, pool.len()) {
-        Standing::There(LangSys {
-            required: l.required,
-            count: l.count,
-        })
-    } else {
-        Standing::Unreadable
-    }
+    and_then(
+        system.indices(pool),
+        |_| Standing::There(LangSys {
+            required: system.required,
+            count: system.count,
+        }),
+    )
 }
 
 impl<'a> Rows<'a> {
@@ -33,7 +32,7 @@ impl<'a> Rows<'a> {
     fn feature_row(&self, at: u16) -> Option<FeatureRow>
         ensures { value_by (read_feature_record self.now.pool.now) no_feature result ≡ feature_record (reading_of self.now) at }
     {
-        row_at(capped(self.features), at as usize)
+        row_at(self.features, at)
     }
 
     // The row of the feature at a place; no alternate has one.
@@ -50,32 +49,28 @@ impl<'a> Rows<'a> {
     fn script_row(&self, at: u16) -> Option<ScriptRow>
         ensures { value_by (read_script_record self.now.pool.now self.now.systems.now) no_script result ≡ script_record (reading_of self.now) at }
     {
-        row_at(capped(self.scripts), at as usize)
+        row_at(self.scripts, at)
     }
 
     // The row of a script's record.
     fn record_row(&self, at: u16, k: u16) -> Option<LangSysRow>
         ensures { value_by (read_lang_sys_record self.now.pool.now) no_lang_sys result ≡ lang_sys_record (reading_of self.now) at k }
     {
-        match self.script_row(at) {
-            Some(s) => range_at(self.systems, s.first, s.count, k),
-            None => None,
-        }
+        let script = self.script_row(at)?;
+        range_at(script.records(self.systems), k)
     }
 
     // The row of a script's default language system.
     fn default_row(&self, at: u16) -> Standing<LangSysRow>
         ensures { bound (read_lang_sys self.now.pool.now) result ≡ default_of (script (reading_of self.now) at) }
     {
-        match self.script_row(at) {
-            Some(s) => {
-                if within(s.first, s.count, self.systems.len()) {
-                    numbered_row(self.systems, s.default)
-                } else {
-                    Standing::Absent
-                }
-            }
-            None => Standing::Absent,
+        let Some(script) = self.script_row(at) else {
+            return Standing::Absent;
+        };
+        // Where the records leave the rows the default is absent, and not unreadable as `and_then` would have it.
+        match script.records(self.systems) {
+            Standing::There(_) => script.default_system(self.systems),
+            Standing::Absent | Standing::Unreadable => Standing::Absent,
         }
     }
 
@@ -85,10 +80,9 @@ impl<'a> Rows<'a> {
     {
         match at {
             LangSysPlace::Default { script } => self.default_row(script),
-            LangSysPlace::Record { script, lang_sys } => match self.record_row(script, lang_sys) {
-                Some(l) => Standing::There(l),
-                None => Standing::Absent,
-            },
+            LangSysPlace::Record { script, lang_sys } => self
+                .record_row(script, lang_sys)
+                .map_or(Standing::Absent, Standing::There),
         }
     }
 }
@@ -105,39 +99,32 @@ impl<'a> Source for Rows<'a> {
     }
 
     fn script_tag(&self, at: u16) -> Tag {
-        match self.script_row(at) {
-            Some(s) => s.tag,
-            None => Tag { code: 0 },
-        }
+        self.script_row(at)
+            .map_or(Tag { code: 0 }, |script| script.tag)
     }
 
     fn script(&self, at: u16) -> Standing<u16> {
-        match self.script_row(at) {
-            Some(s) => range_count(self.systems, s.first, s.count),
-            None => Standing::Absent,
-        }
+        let Some(script) = self.script_row(at) else {
+            return Standing::Absent;
+        };
+        and_then(
+            script.records(self.systems),
+            |_| Standing::There(script.count),
+        )
     }
 
     fn lang_sys_tag(&self, at: u16, k: u16) -> Tag {
-        match self.record_row(at, k) {
-            Some(l) => l.tag,
-            None => Tag { code: 0 },
-        }
+        self.record_row(at, k)
+            .map_or(Tag { code: 0 }, |system| system.tag)
     }
 
     fn lang_sys(&self, at: LangSysPlace) -> Standing<LangSys> {
-        match self.system_row(at) {
-            Standing::There(l) => head(self.pool, l),
-            Standing::Absent => Standing::Absent,
-            Standing::Unreadable => Standing::Unreadable,
-        }
+        and_then(self.system_row(at), |system| head(self.pool, system))
     }
 
     fn feature_index(&self, at: LangSysPlace, k: u16) -> Option<u16> {
-        match self.system_row(at) {
-            Standing::There(l) => range_at(self.pool, l.first, l.count, k),
-            Standing::Absent | Standing::Unreadable => None,
-        }
+        let system = self.system_row(at).there()?;
+        range_at(system.indices(self.pool), k)
     }
 
     fn feature_list(&self) -> Standing<u16> {
@@ -145,24 +132,23 @@ impl<'a> Source for Rows<'a> {
     }
 
     fn feature_tag(&self, at: u16) -> Tag {
-        match self.feature_row(at) {
-            Some(f) => f.tag,
-            None => Tag { code: 0 },
-        }
+        self.feature_row(at)
+            .map_or(Tag { code: 0 }, |feature| feature.tag)
     }
 
     fn feature(&self, at: FeaturePlace) -> Standing<u16> {
-        match self.place_row(at) {
-            Some(f) => range_count(self.pool, f.first, f.count),
-            None => Standing::Absent,
-        }
+        let Some(feature) = self.place_row(at) else {
+            return Standing::Absent;
+        };
+        and_then(
+            feature.lookups(self.pool),
+            |_| Standing::There(feature.count),
+        )
     }
 
     fn lookup(&self, at: FeaturePlace, k: u16) -> Option<u16> {
-        match self.place_row(at) {
-            Some(f) => range_at(self.pool, f.first, f.count, k),
-            None => None,
-        }
+        let feature = self.place_row(at)?;
+        range_at(feature.lookups(self.pool), k)
     }
 
     fn params(&self, _at: FeaturePlace) -> Standing<FeatureParams<'_>> {

@@ -5,8 +5,9 @@ ghost use Rattle.rows.specs.Held.{reading_of};
 use crate::row::{FeatureRow, LangSysRow, ScriptRow};
 use crate::slices::Rows;
 use keys::Tag;
-use source::Kind;
+use source::{Kind, LangSys};
 
+// Tags by their numbers, since a constant's value may hold no call.
 const LIGA: Tag = Tag { code: 0x6c69_6761 };
 
 const LOCL: Tag = Tag { code: 0x6c6f_636c };
@@ -20,9 +21,6 @@ const DFLT: Tag = Tag { code: 0x6466_6c74 };
 const ROM: Tag = Tag { code: 0x524f_4d20 };
 
 const TRK: Tag = Tag { code: 0x5452_4b20 };
-
-// No required feature.
-const NONE: u16 = 65535;
 
 const FEATURES: [FeatureRow; 5] = [
     FeatureRow {
@@ -57,19 +55,19 @@ const SYSTEMS: [LangSysRow; 3] = [
         tag: DFLT,
         first: 5,
         count: 2,
-        required: NONE,
+        required: LangSys::NONE_REQUIRED,
     },
     LangSysRow {
         tag: ROM,
         first: 7,
         count: 2,
-        required: NONE,
+        required: LangSys::NONE_REQUIRED,
     },
     LangSysRow {
         tag: TRK,
         first: 9,
         count: 2,
-        required: NONE,
+        required: LangSys::NONE_REQUIRED,
     },
 ];
 

@@ -1,21 +1,12 @@
-ghost use Rattle.std.specs.Prelude.{◌≡◌, ◌+◌, ◌≤◌, length, take, nat_le};
+ghost use Rattle.std.specs.Prelude.{◌≡◌, ◌≤◌, length, take};
 ghost use Rattle.std.specs.List.{slice_get};
 ghost use Rattle.source.specs.Standings.{mapped, listed};
-ghost use Rattle.rows.specs.Format.{ranged, numbered};
+ghost use Rattle.rows.specs.Format.{ranged};
 ghost use Rattle.rows.specs.Sizes.{most_rows};
+ghost use Rattle.rows.specs.Standings.{ForThere, Follows};
 
 use crate::slices::MOST_ROWS;
 use source::Standing;
-
-// The number of a row that is none.
-const NO_ROW: u16 = 65535;
-
-// Whether a range ends within a slice of that length.
-pub(crate) fn within(first: u16, count: u16, len: usize) -> bool
-    ensures { result ≡ nat_le (first + count) len }
-{
-    first as usize + count as usize <= len
-}
 
 // The rows within the capacity.
 #[tactic(auto, using(crate::proofs::Readings::all_taken))]
@@ -23,56 +14,49 @@ pub(crate) fn capped<T>(rows: &[T]) -> &[T]
     ensures cut { result.now ≡ take most_rows rows.now }
     ensures few { length result.now ≤ most_rows }
 {
-    if rows.len() <= MOST_ROWS {
-        rows
-    } else {
-        &rows[0..MOST_ROWS]
-    }
+    rows.get(..MOST_ROWS).unwrap_or(rows)
 }
 
-// The row at a place.
-pub(crate) fn row_at<T: Copy>(rows: &[T], at: usize) -> Option<T>
-    ensures { result ≡ slice_get rows.now at }
+// The element at a place.
+fn element<T: Copy>(elements: &[T], at: u16) -> Option<T>
+    ensures { result ≡ slice_get elements.now at }
 {
-    if at < rows.len() {
-        Some(rows[at])
-    } else {
-        None
-    }
+    elements.get(at as usize).copied()
 }
 
-// The row of that number, or how it fails to be one.
-#[tactic(auto, using(crate::proofs::Picks::get_or_missing))]
-pub(crate) fn numbered_row<T: Copy>(rows: &[T], number: u16) -> Standing<T>
-    ensures { result ≡ numbered rows.now number }
+// The row at a place, within the capacity.
+pub(crate) fn row_at<T: Copy>(rows: &[T], at: u16) -> Option<T>
+    ensures { result ≡ slice_get (take most_rows rows.now) at }
 {
-    if number == NO_ROW {
-        return Standing::Absent;
-    }
-    match row_at(rows, number as usize) {
-        Some(row) => Standing::There(row),
+    element(capped(rows), at)
+}
+
+// The elements of a range, if it ends within the slice.
+pub(crate) fn range<T>(rows: &[T], first: u16, count: u16) -> Standing<&[T]>
+    ensures { mapped (λ r. r.now) result ≡ ranged rows.now first count }
+{
+    let first = first as usize;
+    match rows.get(first..first + count as usize) {
+        Some(range) => Standing::There(range),
         None => Standing::Unreadable,
     }
 }
 
-// How a range stands, with the number of its rows.
-pub(crate) fn range_count<T>(rows: &[T], first: u16, count: u16) -> Standing<u16>
-    ensures { result ≡ mapped length (ranged rows.now first count) }
+// The element at a place of a range.
+pub(crate) fn range_at<T: Copy>(range: Standing<&[T]>, k: u16) -> Option<T>
+    ensures { result ≡ slice_get (listed (mapped (λ r. r.now) range.entry)) k }
 {
-    if within(first, count, rows.len()) {
-        Standing::There(count)
-    } else {
-        Standing::Unreadable
-    }
+    element(range.there()?, k)
 }
 
-// The row at a place of a range.
-pub(crate) fn range_at<T: Copy>(rows: &[T], first: u16, count: u16, k: u16) -> Option<T>
-    ensures { result ≡ slice_get (listed (ranged rows.now first count)) k }
+// What a function answers of a part, if it is there.
+pub(crate) fn and_then<T, U, F: FnOnce(T) -> Standing<U>>(place: Standing<T>, f: F) -> Standing<U>
+    requires { ForThere place (F.pre f) }
+    ensures { Follows place (F.post f) result }
 {
-    if within(first, count, rows.len()) && k < count {
-        row_at(rows, first as usize + k as usize)
-    } else {
-        None
+    match place {
+        Standing::There(part) => f(part),
+        Standing::Unreadable => Standing::Unreadable,
+        Standing::Absent => Standing::Absent,
     }
 }

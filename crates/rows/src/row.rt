@@ -1,4 +1,10 @@
+ghost use Rattle.std.specs.Prelude.{◌≡◌};
+ghost use Rattle.source.specs.Standings.{mapped, required_of};
+ghost use Rattle.rows.specs.Format.{ranged, numbered};
+
+use crate::ranges::range;
 use keys::Tag;
+use source::Standing;
 
 // A feature: its lookups are `count` numbers of the pool from `first`.
 #[derive(Clone, Copy)]
@@ -6,6 +12,15 @@ pub struct FeatureRow {
     pub tag: Tag,
     pub first: u16,
     pub count: u16,
+}
+
+impl FeatureRow {
+    // The lookups, if they lie within the pool.
+    pub(crate) fn lookups(self, pool: &[u16]) -> Standing<&[u16]>
+        ensures { mapped (λ r. r.now) result ≡ ranged pool.now self.first self.count }
+    {
+        range(pool, self.first, self.count)
+    }
 }
 
 // A language system: its feature indices are `count` numbers of the pool from `first`.
@@ -18,12 +33,48 @@ pub struct LangSysRow {
     pub required: u16,
 }
 
+impl LangSysRow {
+    // The feature indices, if they lie within the pool.
+    pub(crate) fn indices(self, pool: &[u16]) -> Standing<&[u16]>
+        ensures { mapped (λ r. r.now) result ≡ ranged pool.now self.first self.count }
+    {
+        range(pool, self.first, self.count)
+    }
+}
+
 // A script: its records are `count` language system rows from `first`. The default is a row's number,
 // or 65,535 for none.
 #[derive(Clone, Copy)]
 pub struct ScriptRow {
     pub tag: Tag,
+    // A number and no option, since the row is the table's own record.
     pub default: u16,
     pub first: u16,
     pub count: u16,
+}
+
+impl ScriptRow {
+    // A default of this number is none.
+    const NO_DEFAULT: u16 = 65535;
+
+    // The records, if they lie within the rows.
+    pub(crate) fn records(self, systems: &[LangSysRow]) -> Standing<&[LangSysRow]>
+        ensures { mapped (λ r. r.now) result ≡ ranged systems.now self.first self.count }
+    {
+        range(systems, self.first, self.count)
+    }
+
+    // The default language system, if the script has one.
+    #[tactic(auto, using(crate::proofs::Picks::get_or_missing))]
+    pub(crate) fn default_system(self, systems: &[LangSysRow]) -> Standing<LangSysRow>
+        ensures { result ≡ numbered systems.now self.default }
+    {
+        if self.default == ScriptRow::NO_DEFAULT {
+            return Standing::Absent;
+        }
+        match systems.get(self.default as usize) {
+            Some(system) => Standing::There(*system),
+            None => Standing::Unreadable,
+        }
+    }
 }

@@ -2,6 +2,4 @@ use Rattle.rows.proofs.Readings.{row_of}
 use Rattle.rows.proofs.slices.Rows.script_row.Goals as goal
 
 pub returns : goal.returns
-returns c =
-    row_of _ _ c.args.self.now.scripts.now c.capped.result.now c.args.at c.row_at.result c.row_at.ensures
-    c.capped.ensures.cut
+returns c = row_of _ _ c.args.self.now.scripts.now c.args.at c.row_at.result c.row_at.ensures
