@@ -7,26 +7,7 @@ use std::test::Fail;
 
 const TAG: Tag = Tag { code: 0x7465_7374 };
 
-fn there(s: Standing<u16>, count: u16) -> bool {
-    match s {
-        Standing::There(n) => n == count,
-        Standing::Absent | Standing::Unreadable => false,
-    }
-}
-
-fn absent<T: Drop>(s: Standing<T>) -> bool {
-    match s {
-        Standing::Absent => true,
-        Standing::Unreadable | Standing::There(_) => false,
-    }
-}
-
-fn unreadable<T: Drop>(s: Standing<T>) -> bool {
-    match s {
-        Standing::Unreadable => true,
-        Standing::Absent | Standing::There(_) => false,
-    }
-}
+const NO_TAG: Tag = Tag { code: 0 };
 
 fn feature(first: u16, count: u16) -> FeatureRow {
     FeatureRow {
@@ -63,14 +44,14 @@ fn listed(feature: u16) -> FeaturePlace {
 #[test]
 fn builtin_scripts(rt: HostRuntime) {
     let font = builtin();
-    assert!(rt; there(font.script_list(), 1));
-    assert!(rt; font.script_tag(0).code == 0x6c61_746e);
-    assert!(rt; font.script_tag(1).code == 0);
-    assert!(rt; there(font.script(0), 2));
-    assert!(rt; absent(font.script(1)));
-    assert!(rt; font.lang_sys_tag(0, 1).code == 0x5452_4b20);
-    assert!(rt; font.lang_sys_tag(0, 2).code == 0);
-    assert!(rt; absent(font.lang_sys(record(2))));
+    assert_eq!(rt; font.script_list(), Standing::There(1));
+    assert_eq!(rt; font.script_tag(0), Tag::new(*b"latn"));
+    assert_eq!(rt; font.script_tag(1), NO_TAG);
+    assert_eq!(rt; font.script(0), Standing::There(2));
+    assert_eq!(rt; font.script(1), Standing::Absent);
+    assert_eq!(rt; font.lang_sys_tag(0, 1), Tag::new(*b"TRK "));
+    assert_eq!(rt; font.lang_sys_tag(0, 2), NO_TAG);
+    assert_eq!(rt; font.lang_sys(record(2)), Standing::Absent);
     assert_eq!(rt; font.feature_index(default_of(0), 1), Some(1));
     assert_eq!(rt; font.feature_index(record(1), 1), Some(4));
     assert_eq!(rt; font.feature_index(record(1), 2), None);
@@ -79,30 +60,28 @@ fn builtin_scripts(rt: HostRuntime) {
 #[test]
 fn builtin_features(rt: HostRuntime) {
     let font = builtin();
-    assert!(rt; there(font.feature_list(), 5));
-    assert!(rt; font.feature_tag(4).code == 0x7072_6566);
-    assert!(rt; font.feature_tag(5).code == 0);
-    assert!(rt; there(font.feature(listed(2)), 2));
-    assert!(rt; there(font.feature(listed(4)), 0));
-    assert!(rt; absent(font.feature(listed(5))));
+    assert_eq!(rt; font.feature_list(), Standing::There(5));
+    assert_eq!(rt; font.feature_tag(4), Tag::new(*b"pref"));
+    assert_eq!(rt; font.feature_tag(5), NO_TAG);
+    assert_eq!(rt; font.feature(listed(2)), Standing::There(2));
+    assert_eq!(rt; font.feature(listed(4)), Standing::There(0));
+    assert_eq!(rt; font.feature(listed(5)), Standing::Absent);
     assert_eq!(rt; font.lookup(listed(2), 1), Some(3));
     assert_eq!(rt; font.lookup(listed(2), 2), None);
-    assert!(rt; absent(font.params(listed(0))));
-    assert!(rt; absent(font.variations()));
+    assert_eq!(rt; font.params(listed(0)), Standing::Absent);
+    assert_eq!(rt; font.variations(), Standing::Absent);
 }
 
 #[test]
 fn feature_ranges(rt: HostRuntime) -> Result<(), Fail> {
     let features = [feature(1, 2), feature(2, 2), feature(3, 0), feature(4, 0)];
-    let Ok(font) = Rows::open(Kind::Gpos, &features, &[], &[], &[7, 8, 9]) else {
-        return Err(Fail::new("refused"));
-    };
+    let font = Rows::open(Kind::Gpos, &features, &[], &[], &[7, 8, 9])?;
     assert_eq!(rt; font.lookup(listed(0), 1), Some(9));
-    assert!(rt; unreadable(font.feature(listed(1))));
+    assert!(rt; font.feature(listed(1)).is_unreadable());
     assert_eq!(rt; font.lookup(listed(1), 0), None);
-    assert!(rt; font.feature_tag(1).code == TAG.code);
-    assert!(rt; there(font.feature(listed(2)), 0));
-    assert!(rt; unreadable(font.feature(listed(3))));
+    assert_eq!(rt; font.feature_tag(1), TAG);
+    assert_eq!(rt; font.feature(listed(2)), Standing::There(0));
+    assert!(rt; font.feature(listed(3)).is_unreadable());
     Ok(())
 }
 
@@ -120,17 +99,15 @@ fn script_ranges(rt: HostRuntime) -> Result<(), Fail> {
         script(0, 0, 0),
         script(0, 1, 1),
     ];
-    let Ok(font) = Rows::open(Kind::Gsub, &[], &systems, &scripts, &[7]) else {
-        return Err(Fail::new("refused"));
-    };
-    assert!(rt; there(font.script(0), 1));
-    assert!(rt; absent(font.lang_sys(default_of(0))));
-    assert!(rt; unreadable(font.lang_sys(record(0))));
-    assert!(rt; there(font.script(1), 0));
-    assert!(rt; unreadable(font.lang_sys(default_of(1))));
-    assert!(rt; unreadable(font.lang_sys(default_of(2))));
-    assert!(rt; unreadable(font.script(3)));
-    assert!(rt; absent(font.lang_sys(default_of(3))));
+    let font = Rows::open(Kind::Gsub, &[], &systems, &scripts, &[7])?;
+    assert_eq!(rt; font.script(0), Standing::There(1));
+    assert_eq!(rt; font.lang_sys(default_of(0)), Standing::Absent);
+    assert!(rt; font.lang_sys(record(0)).is_unreadable());
+    assert_eq!(rt; font.script(1), Standing::There(0));
+    assert!(rt; font.lang_sys(default_of(1)).is_unreadable());
+    assert!(rt; font.lang_sys(default_of(2)).is_unreadable());
+    assert!(rt; font.script(3).is_unreadable());
+    assert_eq!(rt; font.lang_sys(default_of(3)), Standing::Absent);
     Ok(())
 }
 
