@@ -1,7 +1,6 @@
 ghost use Rattle.std.specs.Prelude.{◌≡◌};
 ghost use Rattle.source.specs.declared.parts.Standing.TheVariants.{Absent};
-ghost use Rattle.source.specs.Standings.{mapped};
-ghost use Rattle.source.specs.Questions.{script_record, no_script, script, default_of, lang_sys_record, no_lang_sys, lang_sys_of, lang_sys_head, feature_record, no_feature, feature};
+ghost use Rattle.source.specs.Questions.{script_record, no_script, script, default_of, lang_sys_record, no_lang_sys, lang_sys_of, feature_record, no_feature, feature};
 ghost use Rattle.rows.specs.Format.{bound, value_by, read_feature, read_feature_record, read_lang_sys, read_lang_sys_record, read_script_record};
 ghost use Rattle.rows.specs.Held.{reading_of};
 
@@ -14,18 +13,8 @@ use source::{
     Substitution, Variations,
 };
 
-// What a language system row says besides its feature indices.
-fn head(pool: &[u16], system: LangSysRow) -> Standing<LangSys>
-    ensures { result ≡ mapped lang_sys_head (read_lang_sys pool.now system) }
-{
-    and_then(
-        system.indices(pool),
-        |_| Standing::There(LangSys {
-            required: system.required,
-            count: system.count,
-        }),
-    )
-}
+// The tag of a record that is not there.
+const NO_TAG: Tag = Tag { code: 0 };
 
 impl<'a> Rows<'a> {
     // The row of the feature list at a place.
@@ -99,8 +88,7 @@ impl<'a> Source for Rows<'a> {
     }
 
     fn script_tag(&self, at: u16) -> Tag {
-        self.script_row(at)
-            .map_or(Tag { code: 0 }, |script| script.tag)
+        self.script_row(at).map_or(NO_TAG, |script| script.tag)
     }
 
     fn script(&self, at: u16) -> Standing<u16> {
@@ -114,12 +102,11 @@ impl<'a> Source for Rows<'a> {
     }
 
     fn lang_sys_tag(&self, at: u16, k: u16) -> Tag {
-        self.record_row(at, k)
-            .map_or(Tag { code: 0 }, |system| system.tag)
+        self.record_row(at, k).map_or(NO_TAG, |system| system.tag)
     }
 
     fn lang_sys(&self, at: LangSysPlace) -> Standing<LangSys> {
-        and_then(self.system_row(at), |system| head(self.pool, system))
+        and_then(self.system_row(at), |system| system.head(self.pool))
     }
 
     fn feature_index(&self, at: LangSysPlace, k: u16) -> Option<u16> {
@@ -132,8 +119,7 @@ impl<'a> Source for Rows<'a> {
     }
 
     fn feature_tag(&self, at: u16) -> Tag {
-        self.feature_row(at)
-            .map_or(Tag { code: 0 }, |feature| feature.tag)
+        self.feature_row(at).map_or(NO_TAG, |feature| feature.tag)
     }
 
     fn feature(&self, at: FeaturePlace) -> Standing<u16> {

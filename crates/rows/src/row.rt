@@ -1,10 +1,11 @@
 ghost use Rattle.std.specs.Prelude.{◌≡◌};
-ghost use Rattle.source.specs.Standings.{mapped, required_of};
-ghost use Rattle.rows.specs.Format.{ranged, numbered};
+ghost use Rattle.source.specs.Standings.{mapped};
+ghost use Rattle.source.specs.Questions.{lang_sys_head};
+ghost use Rattle.rows.specs.Format.{ranged, numbered, read_lang_sys};
 
-use crate::ranges::range;
+use crate::ranges::{and_then, range};
 use keys::Tag;
-use source::Standing;
+use source::{LangSys, Standing};
 
 // A feature: its lookups are `count` numbers of the pool from `first`.
 #[derive(Clone, Copy)]
@@ -39,6 +40,19 @@ impl LangSysRow {
         ensures { mapped (λ r. r.now) result ≡ ranged pool.now self.first self.count }
     {
         range(pool, self.first, self.count)
+    }
+
+    // What the language system says besides its feature indices.
+    pub(crate) fn head(self, pool: &[u16]) -> Standing<LangSys>
+        ensures { result ≡ mapped lang_sys_head (read_lang_sys pool.now self) }
+    {
+        and_then(
+            self.indices(pool),
+            |_| Standing::There(LangSys {
+                required: self.required,
+                count: self.count,
+            }),
+        )
     }
 }
 

@@ -44,20 +44,18 @@ impl<'a, P: Part> Counted<'a, P> {
     }
 
     // The table that an offset leads to from the one that holds it, which begins at `base`.
-    pub(crate) fn led_to(bytes: &'a [u8], base: usize, offset: usize) -> Standing<Counted<'a, P>>
-        requires held { base ≤ length bytes.now }
-        requires near { offset < 2 ^ 32 }
+    pub(crate) fn led_to(bytes: &'a [u8], base: usize, offset: u32) -> Standing<Counted<'a, P>>
+        requires { base ≤ length bytes.now }
         ensures { spots result ≡ placed bytes.now (led bytes.now P.LAYOUT base offset) }
     {
         if offset == 0 {
             return Standing::Absent;
         }
-        Counted::new(bytes, base + offset)
+        Counted::new(bytes, base + offset as usize)
     }
 
     // The table that an offset leads to from this one, which holds it.
-    pub(crate) fn follow<Q: Part>(&self, offset: usize) -> Standing<Counted<'a, Q>>
-        requires { offset < 2 ^ 32 }
+    pub(crate) fn follow<Q: Part>(&self, offset: u32) -> Standing<Counted<'a, Q>>
         ensures { spots result ≡ placed self.now.bytes.now (led self.now.bytes.now Q.LAYOUT self.now.at offset) }
     {
         Counted::led_to(self.bytes, self.at, offset)

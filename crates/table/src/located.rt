@@ -17,7 +17,7 @@ fn list(bytes: &[u8], place: usize) -> Standing<Counted<'_, List>>
     requires { place ≤ 6 }
     ensures { spots result ≡ placed bytes.now (led bytes.now list_layout 0 (u16_at bytes.now place)) }
 {
-    Counted::led_to(bytes, 0, u16_at(bytes, place) as usize)
+    Counted::led_to(bytes, 0, u32::from(u16_at(bytes, place)))
 }
 
 pub(crate) fn script_list(bytes: &[u8]) -> Standing<Counted<'_, List>>
@@ -47,7 +47,7 @@ fn default_lang_sys(script: Standing<Counted<'_, Script>>) -> Standing<Counted<'
     let Some(script) = script.there() else {
         return Standing::Absent;
     };
-    script.follow(script.short(0) as usize)
+    script.follow(u32::from(script.short(0)))
 }
 
 #[tactic(auto, using(crate::proofs::Spots::record_found, crate::proofs::Spots::default_found))]
@@ -69,7 +69,7 @@ pub(crate) fn variations(bytes: &[u8]) -> Standing<VariationList<'_>>
     if u16_at(bytes, 2) == 0 {
         return Standing::Absent;
     }
-    VariationList::led_to(bytes, u32_at(bytes, 10) as usize)
+    VariationList::led_to(bytes, u32_at(bytes, 10))
 }
 
 // Where the offset of a variation record leads, of which the first four bytes are the condition set's offset and the
@@ -89,7 +89,7 @@ fn variation_led_to<P: Part>(
         return Standing::Absent;
     }
     let offset = u32_at(list.bytes, list.at + 8 + 8 * at as usize + from);
-    Counted::led_to(list.bytes, list.at, offset as usize)
+    Counted::led_to(list.bytes, list.at, offset)
 }
 
 #[tactic(auto, using(crate::proofs::Spots::variation_found))]
@@ -106,7 +106,8 @@ pub(crate) fn substitution(bytes: &[u8], at: u32) -> Standing<Counted<'_, Substi
     variation_led_to(variations(bytes), at, 4)
 }
 
-// The alternate feature that a record of a substitution table names.
+// The alternate feature that a record of a substitution table names. It stands beside `record_led_to` since these
+// records have no tag and offsets of 32 bits: a parameter that says so at each call would be no shorter.
 fn alternate(list: Standing<Counted<'_, Substitutions>>, k: u16) -> Standing<Counted<'_, Feature>>
     ensures { spots result ≡ found (spots list.entry) Absent (λ b p. at_entry b substitution_layout p k Absent (λ e. placed b (led b feature_layout p (u32_at b (e + 2))))) }
 {
@@ -116,8 +117,7 @@ fn alternate(list: Standing<Counted<'_, Substitutions>>, k: u16) -> Standing<Cou
     let Some(e) = list.entry(k) else {
         return Standing::Absent;
     };
-    let offset = u32_at(list.bytes, e + 2);
-    list.follow(offset as usize)
+    list.follow(u32_at(list.bytes, e + 2))
 }
 
 #[tactic(auto, using(crate::proofs::Spots::record_found, crate::proofs::Spots::alternate_found))]

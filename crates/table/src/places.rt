@@ -67,6 +67,5 @@ pub(crate) fn record_led_to<'a, P: Part, Q: Part>(
     let Some(e) = list.entry(i) else {
         return Standing::Absent;
     };
-    let offset = u16_at(list.bytes, e + 4);
-    list.follow(offset as usize)
+    list.follow(u32::from(u16_at(list.bytes, e + 4)))
 }

@@ -13,23 +13,23 @@ pub(crate) struct VariationList<'a> {
 }
 
 impl<'a> VariationList<'a> {
-    ghost use Rattle.std.specs.Prelude.{◌≡◌, ◌+◌, ◌^◌, ◌<◌};
+    ghost use Rattle.std.specs.Prelude.{◌≡◌, ◌+◌};
     ghost use Rattle.table.specs.Format.{u32_at, variations_led};
     ghost use Rattle.table.specs.Spots.{placed, variations_spots};
 
     // The list at an offset from the table's start.
-    pub(crate) fn led_to(bytes: &'a [u8], offset: usize) -> Standing<VariationList<'a>>
-        requires { offset < 2 ^ 32 }
+    pub(crate) fn led_to(bytes: &'a [u8], offset: u32) -> Standing<VariationList<'a>>
         ensures { variations_spots result ≡ placed bytes.now (variations_led bytes.now offset) }
     {
         if offset == 0 {
             return Standing::Absent;
         }
-        let count = u32_at(bytes, offset + 4) as usize;
-        if offset + 8 + 8 * count > bytes.len() {
+        let at = offset as usize;
+        let count = u32_at(bytes, at + 4) as usize;
+        if at + 8 + 8 * count > bytes.len() {
             return Standing::Unreadable;
         }
-        Standing::There(VariationList { bytes, at: offset })
+        Standing::There(VariationList { bytes, at })
     }
 
     // How many records the list has.
