@@ -79,7 +79,6 @@ impl ScriptRow {
     }
 
     // The default language system, if the script has one.
-    #[tactic(auto, using(crate::proofs::Picks::get_or_missing))]
     pub(crate) fn default_system(self, systems: &[LangSysRow]) -> Standing<LangSysRow>
         ensures { result ≡ numbered systems.now self.default }
     {
