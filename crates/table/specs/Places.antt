@@ -1,9 +1,8 @@
 -- Where the parts of a table lie.
---   Small              a layout of the format's sizes
 --   at_entry           what is made of the entry i of the counted table at p, or d where it has no such entry
 --   entry_of           the same of a table that may not be there
 --   script_place, ...  where the table of that name lies, by its place in the lists above it
-use Rattle.std.specs.Prelude.{ℕ, ◌+◌, ◌*◌, ◌≤◌, cond, List, nat_lt}
+use Rattle.std.specs.Prelude.{ℕ, ◌+◌, ◌*◌, cond, List, nat_lt}
 use Rattle.source.specs.declared.parts.Standing.{Standing}
 use Rattle.source.specs.declared.parts.Standing.TheVariants.{Absent}
 use Rattle.source.specs.declared.parts.LangSysPlace.{LangSysPlace}
@@ -17,9 +16,6 @@ use Rattle.source.specs.Reading.{Params}
 use Rattle.table.specs.declared.layouts.Layout.{Layout}
 use Rattle.table.specs.Standings.{part_or}
 use Rattle.table.specs.Format.{u16_at, u32_at, led, entry_place, list_layout, script_layout, lang_sys_layout, feature_layout, condition_set_layout, substitution_layout, script_list_place, feature_list_place, variations_place, listed_params, alternate_params}
-
-abbrev pub Small : Layout → Type 0
-Small l = (l.head ≤ 4) × (2 ≤ l.width) × (l.width ≤ 6)
 
 abbrev pub at_entry : {X : Type 0} → List ℕ → Layout → ℕ → ℕ → X → (ℕ → X) → X
 at_entry b l p i d f = cond (nat_lt i (u16_at b (p + l.head))) (f (entry_place l p i)) d

@@ -1,6 +1,5 @@
 ghost use Rattle.std.specs.Prelude.{◌+◌, ◌≤◌, length};
 ghost use Rattle.table.specs.Format.{counted};
-ghost use Rattle.table.specs.Places.{Small};
 
 use crate::fields::u16_at;
 use crate::layouts::Part;
@@ -13,37 +12,16 @@ pub(crate) struct Counted<'a, P: Part> {
     pub(crate) bytes: &'a [u8],
     pub(crate) at: usize,
     part: PhantomData<P>,
-    ghost small: { Small P.LAYOUT },
     ghost inside: { at + counted bytes.now P.LAYOUT at ≤ length bytes.now },
 }
 
 impl<'a, P: Part> Counted<'a, P> {
-    ghost use Rattle.std.specs.Prelude.{◌≡◌, ◌+◌, ◌^◌, ◌<◌, ◌≤◌, length, IfSome, Some, None};
-    ghost use Rattle.table.specs.Format.{u16_at, counted, whole, led};
+    ghost use Rattle.std.specs.Prelude.{◌≡◌, ◌+◌, ◌≤◌, length, IfSome, Some, None};
+    ghost use Rattle.table.specs.Format.{u16_at, led};
     ghost use Rattle.table.specs.Places.{at_entry};
     ghost use Rattle.table.specs.Spots.{placed, spots};
 
-    // The table at a place, if it lies within the bytes.
-    fn new(bytes: &'a [u8], at: usize) -> Standing<Counted<'a, P>>
-        requires { at < 2 ^ 63 + 2 ^ 32 }
-        ensures { spots result ≡ placed bytes.now (whole bytes.now (counted bytes.now P.LAYOUT at) at) }
-    {
-        let head = at + P::LAYOUT.head + 2;
-        if head > bytes.len() {
-            return Standing::Unreadable;
-        }
-        let count = u16_at(bytes, at + P::LAYOUT.head) as usize;
-        if head + P::LAYOUT.width * count > bytes.len() {
-            return Standing::Unreadable;
-        }
-        Standing::There(Counted {
-            bytes,
-            at,
-            part: PhantomData,
-        })
-    }
-
-    // The table that an offset leads to from the one that holds it, which begins at `base`.
+    // The table that an offset leads to from the one that holds it, which begins at `base`, if it lies within the bytes.
     pub(crate) fn led_to(bytes: &'a [u8], base: usize, offset: u32) -> Standing<Counted<'a, P>>
         requires { base ≤ length bytes.now }
         ensures { spots result ≡ placed bytes.now (led bytes.now P.LAYOUT base offset) }
@@ -51,7 +29,17 @@ impl<'a, P: Part> Counted<'a, P> {
         if offset == 0 {
             return Standing::Absent;
         }
-        Counted::new(bytes, base + offset as usize)
+        let at = base + offset as usize;
+        let entries = at + P::LAYOUT.head as usize + 2;
+        let count = u16_at(bytes, at + P::LAYOUT.head as usize) as usize;
+        if entries + P::LAYOUT.width as usize * count > bytes.len() {
+            return Standing::Unreadable;
+        }
+        Standing::There(Counted {
+            bytes,
+            at,
+            part: PhantomData,
+        })
     }
 
     // The table that an offset leads to from this one, which holds it.
@@ -62,18 +50,17 @@ impl<'a, P: Part> Counted<'a, P> {
     }
 
     // The 16-bit field that stands so many bytes after the table's start.
-    pub(crate) fn short(&self, field: usize) -> u16
-        requires { field < 2 ^ 16 }
-        ensures { result ≡ u16_at self.now.bytes.now (self.now.at + field) }
+    pub(crate) fn field(&self, place: u8) -> u16
+        ensures { result ≡ u16_at self.now.bytes.now (self.now.at + place) }
     {
-        u16_at(self.bytes, self.at + field)
+        u16_at(self.bytes, self.at + place as usize)
     }
 
     // How many entries the table has.
     pub(crate) fn len(&self) -> u16
         ensures { result ≡ u16_at self.now.bytes.now (self.now.at + P.LAYOUT.head) }
     {
-        self.short(P::LAYOUT.head)
+        self.field(P::LAYOUT.head)
     }
 
     // The place of an entry.
@@ -81,10 +68,10 @@ impl<'a, P: Part> Counted<'a, P> {
         ensures value { result ≡ at_entry self.now.bytes.now P.LAYOUT self.now.at i None Some }
         ensures inside { IfSome result (λ e. e + P.LAYOUT.width ≤ length self.now.bytes.now) }
     {
-        if i < self.len() {
-            Some(self.at + P::LAYOUT.head + 2 + P::LAYOUT.width * i as usize)
-        } else {
-            None
+        if i >= self.len() {
+            return None;
         }
+        let entries = self.at + P::LAYOUT.head as usize + 2;
+        Some(entries + P::LAYOUT.width as usize * i as usize)
     }
 }

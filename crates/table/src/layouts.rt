@@ -1,14 +1,12 @@
 // The kinds of counted table, by how their bytes are laid out.
 ghost use Rattle.table.specs.Format.{list_layout, script_layout, lang_sys_layout, feature_layout, condition_set_layout, substitution_layout};
-ghost use Rattle.table.specs.Places.{Small};
-ghost use Rattle.std.proofs.Common.{lit≤};
 
 // A counted table is one whose fields end with a 16-bit count of the entries that follow: `head` bytes stand before the
 // count, and each entry has `width` bytes.
 #[derive(Clone, Copy)]
 pub(crate) struct Layout {
-    pub(crate) head: usize,
-    pub(crate) width: usize,
+    pub(crate) head: u8,
+    pub(crate) width: u8,
 }
 
 // A kind of counted table.
@@ -18,8 +16,6 @@ pub(crate) trait Part: Drop {
     const LAYOUT: Layout;
 
     ghost LAYOUT: { Layout };
-
-    ghost small: { Small LAYOUT };
 }
 
 // A ScriptList or a FeatureList.
@@ -30,8 +26,6 @@ impl Part for List {
     const LAYOUT: Layout = Layout { head: 0, width: 6 };
 
     ghost LAYOUT = { list_layout };
-
-    ghost small = { (lit≤ tt, lit≤ tt, lit≤ tt) };
 }
 
 #[derive(Drop)]
@@ -41,10 +35,9 @@ impl Part for Script {
     const LAYOUT: Layout = Layout { head: 2, width: 6 };
 
     ghost LAYOUT = { script_layout };
-
-    ghost small = { (lit≤ tt, lit≤ tt, lit≤ tt) };
 }
 
+// A LangSys.
 #[derive(Drop)]
 pub(crate) struct System;
 
@@ -52,8 +45,6 @@ impl Part for System {
     const LAYOUT: Layout = Layout { head: 4, width: 2 };
 
     ghost LAYOUT = { lang_sys_layout };
-
-    ghost small = { (lit≤ tt, lit≤ tt, lit≤ tt) };
 }
 
 #[derive(Drop)]
@@ -63,8 +54,6 @@ impl Part for Feature {
     const LAYOUT: Layout = Layout { head: 2, width: 2 };
 
     ghost LAYOUT = { feature_layout };
-
-    ghost small = { (lit≤ tt, lit≤ tt, lit≤ tt) };
 }
 
 #[derive(Drop)]
@@ -74,10 +63,9 @@ impl Part for ConditionSet {
     const LAYOUT: Layout = Layout { head: 0, width: 4 };
 
     ghost LAYOUT = { condition_set_layout };
-
-    ghost small = { (lit≤ tt, lit≤ tt, lit≤ tt) };
 }
 
+// A FeatureTableSubstitution.
 #[derive(Drop)]
 pub(crate) struct Substitutions;
 
@@ -85,6 +73,4 @@ impl Part for Substitutions {
     const LAYOUT: Layout = Layout { head: 4, width: 6 };
 
     ghost LAYOUT = { substitution_layout };
-
-    ghost small = { (lit≤ tt, lit≤ tt, lit≤ tt) };
 }

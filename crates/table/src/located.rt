@@ -47,7 +47,7 @@ fn default_lang_sys(script: Standing<Counted<'_, Script>>) -> Standing<Counted<'
     let Some(script) = script.there() else {
         return Standing::Absent;
     };
-    script.follow(u32::from(script.short(0)))
+    script.follow(u32::from(script.field(0)))
 }
 
 #[tactic(auto, using(crate::proofs::Spots::record_found, crate::proofs::Spots::default_found))]

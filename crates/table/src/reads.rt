@@ -103,7 +103,7 @@ fn listed_params<'a>(
     let Some(feature) = feature.there() else {
         return Standing::Absent;
     };
-    let offset = feature.short(0);
+    let offset = feature.field(0);
     if offset == 0 {
         return Standing::Absent;
     }
@@ -117,7 +117,7 @@ fn alternate_params<'a>(feature: Standing<Counted<'a, Feature>>) -> Standing<Fea
     let Some(feature) = feature.there() else {
         return Standing::Absent;
     };
-    if feature.short(0) == 0 {
+    if feature.field(0) == 0 {
         return Standing::Absent;
     }
     Standing::Unreadable
@@ -144,7 +144,7 @@ pub(crate) fn lang_sys_head(system: Standing<Counted<'_, System>>) -> Standing<L
     mapped(
         system,
         |system| LangSys {
-            required: system.short(2),
+            required: system.field(2),
             count: system.len(),
         },
     )

@@ -5,7 +5,7 @@ use crate::fields::u32_at;
 use source::Standing;
 
 // A variation list, whose records are counted by 32 bits and lie within the bytes.
-#[derive(Clone, Copy)]
+#[derive(Drop)]
 pub(crate) struct VariationList<'a> {
     pub(crate) bytes: &'a [u8],
     pub(crate) at: usize,
