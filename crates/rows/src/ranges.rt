@@ -49,7 +49,8 @@ pub(crate) fn range_at<T: Copy>(range: Standing<&[T]>, k: u16) -> Option<T>
     element(range.there()?, k)
 }
 
-// What a function answers of a part, if it is there.
+// What a function answers of a part, if it is there. It is not a method of the standing, since a public one would ask
+// of its caller that the function may be called.
 pub(crate) fn and_then<T, U, F: FnOnce(T) -> Standing<U>>(place: Standing<T>, f: F) -> Standing<U>
     requires { ForThere place (F.pre f) }
     ensures { Follows place (F.post f) result }

@@ -31,6 +31,7 @@ pub struct LangSysRow {
     pub tag: Tag,
     pub first: u16,
     pub count: u16,
+    // A number and no option, since the row is the table's own record.
     pub required: u16,
 }
 

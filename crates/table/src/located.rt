@@ -1,5 +1,5 @@
 // Where each table lies, by its place in the lists above it.
-ghost use Rattle.std.specs.Prelude.{◌≡◌, ◌+◌, ◌*◌, ◌≤◌, cond, nat_lt};
+ghost use Rattle.std.specs.Prelude.{◌≡◌, ◌+◌, ◌*◌, cond, nat_lt};
 ghost use Rattle.source.specs.declared.parts.Standing.TheVariants.{Absent};
 ghost use Rattle.table.specs.Format.{list_layout, lang_sys_layout, substitution_layout, feature_layout, u16_at, u32_at, led, script_list_place, feature_list_place, variations_place};
 ghost use Rattle.table.specs.Places.{at_entry, script_place, lang_sys_place, condition_set_place, substitution_place, feature_place};
@@ -13,11 +13,10 @@ use crate::variations::VariationList;
 use source::{FeaturePlace, LangSysPlace, Standing};
 
 // The list that the offset at a place of the header leads to.
-fn list(bytes: &[u8], place: usize) -> Standing<Counted<'_, List>>
-    requires { place ≤ 6 }
+fn list(bytes: &[u8], place: u8) -> Standing<Counted<'_, List>>
     ensures { spots result ≡ placed bytes.now (led bytes.now list_layout 0 (u16_at bytes.now place)) }
 {
-    Counted::led_to(bytes, 0, u32::from(u16_at(bytes, place)))
+    Counted::led_to(bytes, 0, u32::from(u16_at(bytes, place as usize)))
 }
 
 pub(crate) fn script_list(bytes: &[u8]) -> Standing<Counted<'_, List>>
@@ -77,9 +76,8 @@ pub(crate) fn variations(bytes: &[u8]) -> Standing<VariationList<'_>>
 fn variation_led_to<P: Part>(
     list: Standing<VariationList<'_>>,
     at: u32,
-    from: usize,
+    from: u8,
 ) -> Standing<Counted<'_, P>>
-    requires { from ≤ 4 }
     ensures { spots result ≡ found (variations_spots list.entry) Absent (λ b p. cond (nat_lt at (u32_at b (p + 4))) (placed b (led b P.LAYOUT p (u32_at b (p + 8 + 8 * at + from)))) Absent) }
 {
     let Some(list) = list.there() else {
@@ -88,7 +86,8 @@ fn variation_led_to<P: Part>(
     if at >= list.len() {
         return Standing::Absent;
     }
-    let offset = u32_at(list.bytes, list.at + 8 + 8 * at as usize + from);
+    let record = list.at + 8 + 8 * at as usize;
+    let offset = u32_at(list.bytes, record + from as usize);
     Counted::led_to(list.bytes, list.at, offset)
 }
 

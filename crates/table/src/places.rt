@@ -13,7 +13,8 @@ use crate::layouts::Part;
 use keys::Tag;
 use source::Standing;
 
-// What a function makes of a part, standing as the part does.
+// What a function makes of a part, standing as the part does. It is not a method of the standing, since a public one
+// would ask of its caller that the function may be called.
 pub(crate) fn mapped<T, U, F: FnOnce(T) -> U>(place: Standing<T>, f: F) -> Standing<U>
     requires { ForThere place (F.pre f) }
     ensures { Mapped place (F.post f) result }
