@@ -4,10 +4,12 @@
 --   spots              how a counted table stands, with where it lies
 --   variations_spots   the same of a variation list
 --   found              what is made of a table that is there, by its bytes and its place, or d
-use Rattle.std.specs.Prelude.{ℕ, List}
+use Rattle.std.specs.Prelude.{ℕ, List, Option}
+use Rattle.std.specs.Option.{option_map}
 use Rattle.source.specs.declared.parts.Standing.{Standing}
 use Rattle.source.specs.Standings.{mapped}
 use Rattle.table.specs.declared.counted.Counted.{Counted}
+use Rattle.table.specs.declared.place.Place.{Place}
 use Rattle.table.specs.declared.variations.VariationList.{VariationList}
 use Rattle.table.specs.Standings.{part_or}
 
@@ -29,3 +31,9 @@ variations_spots s = mapped (λ v. spot v.bytes.now v.at) s
 
 abbrev pub found : {X : Type 0} → Standing Spot → X → (List ℕ → ℕ → X) → X
 found s d f = part_or s d (λ t. f t.bytes t.at)
+
+abbrev pub place_spot : Place → Spot
+place_spot p = spot p.bytes.now p.at
+
+abbrev pub entry_spot : Option Place → Option Spot
+entry_spot e = option_map place_spot e

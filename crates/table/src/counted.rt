@@ -3,6 +3,7 @@ ghost use Rattle.table.specs.Format.{counted};
 
 use crate::fields::u16_at;
 use crate::layouts::Part;
+use crate::place::Place;
 use source::Standing;
 use std::marker::PhantomData;
 
@@ -19,7 +20,7 @@ impl<'a, P: Part> Counted<'a, P> {
     ghost use Rattle.std.specs.Prelude.{◌≡◌, ◌+◌, ◌≤◌, length, IfSome, Some, None};
     ghost use Rattle.table.specs.Format.{u16_at, led};
     ghost use Rattle.table.specs.Places.{at_entry};
-    ghost use Rattle.table.specs.Spots.{placed, spots};
+    ghost use Rattle.table.specs.Spots.{placed, spots, spot, place_spot, entry_spot};
 
     // The table that an offset leads to from the one that holds it, which begins at `base`, if it lies within the bytes.
     pub(crate) fn led_to(bytes: &'a [u8], base: usize, offset: u32) -> Standing<Counted<'a, P>>
@@ -49,11 +50,21 @@ impl<'a, P: Part> Counted<'a, P> {
         Counted::led_to(self.bytes, self.at, offset)
     }
 
-    // The 16-bit field that stands so many bytes after the table's start.
-    pub(crate) fn field(&self, place: u8) -> u16
-        ensures { result ≡ u16_at self.now.bytes.now (self.now.at + place) }
+    // The place so many bytes after the table's start.
+    pub(crate) fn place(&self, offset: u32) -> Place<'a>
+        ensures { place_spot result ≡ spot self.now.bytes.now (self.now.at + offset) }
     {
-        u16_at(self.bytes, self.at + place as usize)
+        Place {
+            bytes: self.bytes,
+            at: self.at + offset as usize,
+        }
+    }
+
+    // The 16-bit field that stands so many bytes after the table's start.
+    pub(crate) fn field(&self, after: u8) -> u16
+        ensures { result ≡ u16_at self.now.bytes.now (self.now.at + after) }
+    {
+        u16_at(self.bytes, self.at + after as usize)
     }
 
     // How many entries the table has.
@@ -64,14 +75,17 @@ impl<'a, P: Part> Counted<'a, P> {
     }
 
     // The place of an entry.
-    pub(crate) fn entry(&self, i: u16) -> Option<usize>
-        ensures value { result ≡ at_entry self.now.bytes.now P.LAYOUT self.now.at i None Some }
-        ensures inside { IfSome result (λ e. e + P.LAYOUT.width ≤ length self.now.bytes.now) }
+    pub(crate) fn entry(&self, i: u16) -> Option<Place<'a>>
+        ensures value { entry_spot result ≡ at_entry self.now.bytes.now P.LAYOUT self.now.at i None (λ e. Some (spot self.now.bytes.now e)) }
+        ensures inside { IfSome result (λ e. e.at + P.LAYOUT.width ≤ length e.bytes.now) }
     {
         if i >= self.len() {
             return None;
         }
         let entries = self.at + P::LAYOUT.head as usize + 2;
-        Some(entries + P::LAYOUT.width as usize * i as usize)
+        Some(Place {
+            bytes: self.bytes,
+            at: entries + P::LAYOUT.width as usize * i as usize,
+        })
     }
 }

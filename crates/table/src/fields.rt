@@ -1,8 +1,6 @@
 ghost use Rattle.std.specs.Prelude.{◌≡◌, ◌+◌, ◌^◌, ◌<◌, slice_index};
 ghost use Rattle.table.specs.Format.{u16_at, u32_at};
 
-// A place stays a number beside the bytes: a struct of the two would be made anew for each number that is read.
-
 // The byte at a place, 0 past the end.
 pub(crate) fn byte_at(bytes: &[u8], at: usize) -> u8
     ensures { result ≡ slice_index bytes.now at }

@@ -8,6 +8,7 @@ mod fields;
 mod layouts;
 mod located;
 mod opening;
+mod place;
 mod places;
 mod reads;
 mod variations;

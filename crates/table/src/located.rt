@@ -39,7 +39,6 @@ pub(crate) fn script(bytes: &[u8], at: u16) -> Standing<Counted<'_, Script>>
 }
 
 // The default language system of a script.
-#[tactic(auto, using(crate::proofs::Spots::first_field))]
 fn default_lang_sys(script: Standing<Counted<'_, Script>>) -> Standing<Counted<'_, System>>
     ensures { spots result ≡ found (spots script.entry) Absent (λ b p. placed b (led b lang_sys_layout p (u16_at b p))) }
 {
@@ -83,12 +82,10 @@ fn variation_led_to<P: Part>(
     let Some(list) = list.there() else {
         return Standing::Absent;
     };
-    if at >= list.len() {
+    let Some(record) = list.record(at) else {
         return Standing::Absent;
-    }
-    let record = list.at + 8 + 8 * at as usize;
-    let offset = u32_at(list.bytes, record + from as usize);
-    Counted::led_to(list.bytes, list.at, offset)
+    };
+    Counted::led_to(list.bytes, list.at, record.long(from))
 }
 
 #[tactic(auto, using(crate::proofs::Spots::variation_found))]
@@ -116,7 +113,7 @@ fn alternate(list: Standing<Counted<'_, Substitutions>>, k: u16) -> Standing<Cou
     let Some(e) = list.entry(k) else {
         return Standing::Absent;
     };
-    list.follow(u32_at(list.bytes, e + 2))
+    list.follow(e.long(2))
 }
 
 #[tactic(auto, using(crate::proofs::Spots::record_found, crate::proofs::Spots::alternate_found))]

@@ -8,7 +8,6 @@ ghost use Rattle.table.specs.Spots.{placed, spots, found};
 ghost use Rattle.table.specs.Standings.{ForThere, Mapped};
 
 use crate::counted::Counted;
-use crate::fields::{u16_at, u32_at};
 use crate::layouts::Part;
 use keys::Tag;
 use source::Standing;
@@ -38,8 +37,7 @@ pub(crate) fn number_of<P: Part>(list: Standing<Counted<'_, P>>, i: u16) -> Opti
     ensures { result ≡ found (spots list.entry) None (λ b p. at_entry b P.LAYOUT p i None (λ e. Some (u16_at b e))) }
 {
     let list = list.there()?;
-    let e = list.entry(i)?;
-    Some(u16_at(list.bytes, e))
+    Some(list.entry(i)?.short(0))
 }
 
 // The tag of a record (tag, offset) of a counted table.
@@ -48,7 +46,7 @@ pub(crate) fn tag_of<P: Part>(list: Standing<Counted<'_, P>>, i: u16) -> Tag
 {
     let code = list.there().and_then(|list| {
         let e = list.entry(i)?;
-        Some(u32_at(list.bytes, e))
+        Some(e.long(0))
     });
     Tag {
         code: code.unwrap_or(0),
@@ -68,5 +66,5 @@ pub(crate) fn record_led_to<'a, P: Part, Q: Part>(
     let Some(e) = list.entry(i) else {
         return Standing::Absent;
     };
-    list.follow(u32::from(u16_at(list.bytes, e + 4)))
+    list.follow(u32::from(e.short(4)))
 }

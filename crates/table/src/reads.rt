@@ -1,52 +1,50 @@
 // What is read of a table that was found: conditions, parameters, and what it says besides its entries.
-ghost use Rattle.std.specs.Prelude.{◌≡◌, ◌+◌, ◌^◌, ◌<◌, ◌≤◌, length};
+ghost use Rattle.std.specs.Prelude.{◌≡◌, ◌+◌, ◌==◌, cond};
 ghost use Rattle.source.specs.Standings.{mapped};
 ghost use Rattle.source.specs.Questions.{params_meaning};
 ghost use Rattle.source.specs.declared.parts.Standing.TheVariants.{Absent};
-ghost use Rattle.table.specs.Format.{condition_set_layout, bytes_at, whole, condition_by_format, condition_entry_at, listed_params, params_at, alternate_params};
+ghost use Rattle.table.specs.Format.{condition_set_layout, condition_by_format, condition_at, condition_entry_at, listed_params, params_at, alternate_params};
 ghost use Rattle.table.specs.Places.{at_entry, feature_place, params_of_place, lang_sys_fields, variations_fields, substitution_fields};
 ghost use Rattle.table.specs.Spots.{spots, variations_spots, found};
 
 use crate::counted::Counted;
-use crate::fields::{u16_at, u32_at};
+use crate::fields::u32_at;
 use crate::layouts::{ConditionSet, Feature, Substitutions, System};
 use crate::located;
+use crate::place::Place;
 use crate::places::{mapped, tag_of};
 use crate::variations::VariationList;
 use keys::Tag;
 use source::{Condition, FeatureParams, FeaturePlace, LangSys, Standing, Substitution, Variations};
 
 // The condition at a place, of which the format is known.
-fn condition_by_format(bytes: &[u8], format: u16, at: usize) -> Standing<Condition>
-    requires { at + 8 < 2 ^ 64 }
-    ensures { result ≡ condition_by_format bytes.now format at }
+fn condition_by_format(place: Place<'_>, format: u16) -> Standing<Condition>
+    ensures { result ≡ condition_by_format place.entry.bytes.now format place.entry.at }
 {
     match format {
-        1 if at + 8 > bytes.len() => Standing::Unreadable,
+        1 if place.lent(8).is_unreadable() => Standing::Unreadable,
         1 => Standing::There(Condition::Format1 {
-            axis: u16_at(bytes, at + 2),
-            minimum: u16_at(bytes, at + 4),
-            maximum: u16_at(bytes, at + 6),
+            axis: place.short(2),
+            minimum: place.short(4),
+            maximum: place.short(6),
         }),
         2..=5 => Standing::There(Condition::Other),
         _ => Standing::Unreadable,
     }
 }
 
-// The condition that the offset at an entry of a condition set leads to.
-fn condition_at(set: &Counted<'_, ConditionSet>, e: usize) -> Standing<Condition>
-    requires { e ≤ length set.now.bytes.now }
-    ensures { result ≡ condition_entry_at set.now.bytes.now set.now.at e }
+// The condition that an offset of a condition set leads to.
+fn condition_at(set: &Counted<'_, ConditionSet>, offset: u32) -> Standing<Condition>
+    ensures { result ≡ cond (offset == 0) Absent (condition_at set.now.bytes.now (set.now.at + offset)) }
 {
-    let offset = u32_at(set.bytes, e) as usize;
     if offset == 0 {
         return Standing::Absent;
     }
-    let at = set.at + offset;
-    if at + 2 > set.bytes.len() {
+    let place = set.place(offset);
+    if place.lent(2).is_unreadable() {
         return Standing::Unreadable;
     }
-    condition_by_format(set.bytes, u16_at(set.bytes, at), at)
+    condition_by_format(place, place.short(0))
 }
 
 // The condition at an entry of a condition set.
@@ -59,34 +57,19 @@ pub(crate) fn condition_of(set: Standing<Counted<'_, ConditionSet>>, k: u16) -> 
     let Some(e) = set.entry(k) else {
         return Standing::Absent;
     };
-    condition_at(&set, e)
-}
-
-// So many bytes from a place.
-fn lent(bytes: &[u8], at: usize, size: usize) -> Standing<&[u8]>
-    requires { at + size < 2 ^ 64 }
-    ensures { mapped (λ s. s.now) result ≡ mapped (λ p. bytes_at bytes.now p size) (whole bytes.now size at) }
-{
-    match bytes.get(at..at + size) {
-        Some(part) => Standing::There(part),
-        None => Standing::Unreadable,
-    }
+    condition_at(&set, e.long(0))
 }
 
 // The parameters at a place, by the feature's tag.
-fn params_at(bytes: &[u8], tag: Tag, at: usize) -> Standing<FeatureParams<'_>>
-    requires { at < 2 ^ 63 + 2 ^ 32 }
-    ensures { mapped params_meaning result ≡ params_at bytes.now tag.code at }
+fn params_at(place: Place<'_>, tag: Tag) -> Standing<FeatureParams<'_>>
+    ensures { mapped params_meaning result ≡ params_at place.entry.bytes.now tag.code place.entry.at }
 {
     match tag.to_bytes() {
-        [b's', b'i', b'z', b'e'] => mapped(lent(bytes, at, 10), FeatureParams::Size),
-        [b's', b's', ..] => mapped(lent(bytes, at, 4), FeatureParams::StylisticSet),
+        [b's', b'i', b'z', b'e'] => mapped(place.lent(10), FeatureParams::Size),
+        [b's', b's', ..] => mapped(place.lent(4), FeatureParams::StylisticSet),
         [b'c', b'v', ..] => {
-            let count = u16_at(bytes, at + 12) as usize;
-            mapped(
-                lent(bytes, at, 14 + 3 * count),
-                FeatureParams::CharacterVariant,
-            )
+            let count = u32::from(place.short(12));
+            mapped(place.lent(14 + 3 * count), FeatureParams::CharacterVariant)
         }
         _ => Standing::Unreadable,
     }
@@ -107,7 +90,7 @@ fn listed_params<'a>(
     if offset == 0 {
         return Standing::Absent;
     }
-    params_at(feature.bytes, tag, feature.at + offset as usize)
+    params_at(feature.place(u32::from(offset)), tag)
 }
 
 // The parameters of an alternate feature, which cannot be read.

@@ -2,6 +2,7 @@ ghost use Rattle.std.specs.Prelude.{◌+◌, ◌≤◌, length};
 ghost use Rattle.table.specs.Format.{variations_size};
 
 use crate::fields::u32_at;
+use crate::place::Place;
 use source::Standing;
 
 // A variation list, whose records are counted by 32 bits and lie within the bytes.
@@ -13,9 +14,9 @@ pub(crate) struct VariationList<'a> {
 }
 
 impl<'a> VariationList<'a> {
-    ghost use Rattle.std.specs.Prelude.{◌≡◌, ◌+◌};
+    ghost use Rattle.std.specs.Prelude.{◌≡◌, ◌+◌, ◌*◌, cond, nat_lt, Some, None};
     ghost use Rattle.table.specs.Format.{u32_at, variations_led};
-    ghost use Rattle.table.specs.Spots.{placed, variations_spots};
+    ghost use Rattle.table.specs.Spots.{placed, variations_spots, spot, entry_spot};
 
     // The list at an offset from the table's start.
     pub(crate) fn led_to(bytes: &'a [u8], offset: u32) -> Standing<VariationList<'a>>
@@ -37,5 +38,17 @@ impl<'a> VariationList<'a> {
         ensures { result ≡ u32_at self.now.bytes.now (self.now.at + 4) }
     {
         u32_at(self.bytes, self.at + 4)
+    }
+    // The place of a record.
+    pub(crate) fn record(&self, i: u32) -> Option<Place<'a>>
+        ensures { entry_spot result ≡ cond (nat_lt i (u32_at self.now.bytes.now (self.now.at + 4))) (Some (spot self.now.bytes.now (self.now.at + 8 + 8 * i))) None }
+    {
+        if i >= self.len() {
+            return None;
+        }
+        Some(Place {
+            bytes: self.bytes,
+            at: self.at + 8 + 8 * i as usize,
+        })
     }
 }
