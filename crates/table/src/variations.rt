@@ -39,6 +39,7 @@ impl<'a> VariationList<'a> {
     {
         u32_at(self.bytes, self.at + 4)
     }
+
     // The place of a record.
     pub(crate) fn record(&self, i: u32) -> Option<Place<'a>>
         ensures { entry_spot result ≡ cond (nat_lt i (u32_at self.now.bytes.now (self.now.at + 4))) (Some (spot self.now.bytes.now (self.now.at + 8 + 8 * i))) None }
