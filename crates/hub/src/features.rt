@@ -2,7 +2,8 @@ ghost use Rattle.std.specs.Prelude.{Some};
 ghost use Rattle.hub.specs.Names.{feature_text};
 
 use crate::fields::write_params;
-use console::{Counted, Page};
+use crate::show::Shown;
+use console::Counted;
 use source::{FeaturePlace, Source, Standing};
 use std::alloc::AllocError;
 use std::fmt;
@@ -28,55 +29,55 @@ impl<'a, S: Source> fmt::Display for FeatureName<'a, S> {
     }
 }
 
-pub(crate) fn write_features<S: Source>(source: &S, page: &mut Page) -> Result<(), AllocError> {
-    let list = source.feature_list();
-    let count = Counted {
-        list,
-        thing: "feature",
-    };
-    writeln!(page, "Feature list: {count}")?;
-    for at in 0..list.count() {
-        let tag = source.feature_tag(at);
-        write!(page, "  {at} {tag}:")?;
-        write_feature(source, page, FeaturePlace::Listed { feature: at })?;
-    }
-    Ok(())
-}
-
-// A feature's lookups, and its parameters on a line below.
-pub(crate) fn write_feature<S: Source>(
-    source: &S,
-    page: &mut Page,
-    place: FeaturePlace,
-) -> Result<(), AllocError> {
-    let count = match source.feature(place) {
-        Standing::Absent => return page.line(" absent"),
-        Standing::Unreadable => return page.line(" unreadable"),
-        Standing::There(count) => count,
-    };
-    let params = source.params(place);
-    if params == Standing::Absent {
-        page.put(" no parameters;")?;
-    }
-    write_lookups(source, page, place, count)?;
-    write_params(page, params)
-}
-
-fn write_lookups<S: Source>(
-    source: &S,
-    page: &mut Page,
-    place: FeaturePlace,
-    count: u16,
-) -> Result<(), AllocError> {
-    page.put(if count == 0 {
-        " no lookups"
-    } else {
-        " lookups"
-    })?;
-    for k in 0..count {
-        if let Some(lookup) = source.lookup(place, k) {
-            page.item(k, lookup)?;
+impl<'a, S: Source> Shown<'a, S> {
+    pub(crate) fn feature_name(&self, index: u16) -> FeatureName<'a, S> {
+        FeatureName {
+            source: self.source,
+            index,
         }
     }
-    page.end()
+
+    pub(crate) fn write_features(&mut self) -> Result<(), AllocError> {
+        let list = self.source.feature_list();
+        let count = Counted {
+            list,
+            thing: "feature",
+        };
+        writeln!(self.page, "Feature list: {count}")?;
+        for at in 0..list.count() {
+            let tag = self.source.feature_tag(at);
+            write!(self.page, "  {at} {tag}:")?;
+            self.write_feature(FeaturePlace::Listed { feature: at })?;
+        }
+        Ok(())
+    }
+
+    // A feature's lookups, and its parameters on a line below.
+    pub(crate) fn write_feature(&mut self, place: FeaturePlace) -> Result<(), AllocError> {
+        let count = match self.source.feature(place) {
+            Standing::Absent => return self.page.line(" absent"),
+            Standing::Unreadable => return self.page.line(" unreadable"),
+            Standing::There(count) => count,
+        };
+        let params = self.source.params(place);
+        if params == Standing::Absent {
+            self.page.put(" no parameters;")?;
+        }
+        self.write_lookups(place, count)?;
+        write_params(&mut self.page, params)
+    }
+
+    fn write_lookups(&mut self, place: FeaturePlace, count: u16) -> Result<(), AllocError> {
+        self.page.put(if count == 0 {
+            " no lookups"
+        } else {
+            " lookups"
+        })?;
+        for k in 0..count {
+            if let Some(lookup) = self.source.lookup(place, k) {
+                self.page.item(k, lookup)?;
+            }
+        }
+        self.page.end()
+    }
 }

@@ -10,12 +10,13 @@ mod variations;
 mod work;
 
 use console::{Command, Request, SetWords, read_request};
+use show::Show;
 use source::Kind;
 use std::env;
 use std::fmt::Display;
 use std::process::ExitCode;
 use troubles::{Fault, Halt, Trouble};
-use work::{Show, Task, work_builtin, work_file};
+use work::{Task, work_builtin, work_file};
 
 const USAGE: &str = "hub                  show the built-in font's table
 hub show GSUB FILE   show the GSUB table of a file

@@ -1,80 +1,75 @@
 use crate::features::FeatureName;
-use console::{Counted, Page};
+use crate::show::Shown;
+use console::Counted;
 use source::{LangSys, LangSysPlace, Source, Standing};
 use std::alloc::AllocError;
 
-pub(crate) fn write_scripts<S: Source>(source: &S, page: &mut Page) -> Result<(), AllocError> {
-    let list = source.script_list();
-    let count = Counted {
-        list,
-        thing: "script",
-    };
-    writeln!(page, "Script list: {count}")?;
-    for at in 0..list.count() {
-        write_script(source, page, at)?;
-    }
-    Ok(())
-}
-
-fn write_script<S: Source>(source: &S, page: &mut Page, at: u16) -> Result<(), AllocError> {
-    let tag = source.script_tag(at);
-    let list = source.script(at);
-    let count = Counted {
-        list,
-        thing: "language system",
-    };
-    writeln!(page, "  {at} {tag}: {count}")?;
-    if let Standing::There(_) = list {
-        page.put("    default:")?;
-        write_lang_sys(source, page, LangSysPlace::Default { script: at })?;
-    }
-    for k in 0..list.count() {
-        let tag = source.lang_sys_tag(at, k);
-        write!(page, "    {k} {tag}:")?;
-        let place = LangSysPlace::Record {
-            script: at,
-            lang_sys: k,
+impl<'a, S: Source> Shown<'a, S> {
+    pub(crate) fn write_scripts(&mut self) -> Result<(), AllocError> {
+        let list = self.source.script_list();
+        let count = Counted {
+            list,
+            thing: "script",
         };
-        write_lang_sys(source, page, place)?;
-    }
-    Ok(())
-}
-
-fn write_lang_sys<S: Source>(
-    source: &S,
-    page: &mut Page,
-    place: LangSysPlace,
-) -> Result<(), AllocError> {
-    match source.lang_sys(place) {
-        Standing::Absent => page.line(" absent"),
-        Standing::Unreadable => page.line(" unreadable"),
-        Standing::There(found) => write_indices(source, page, place, found),
-    }
-}
-
-// The required feature, and the listed ones.
-fn write_indices<S: Source>(
-    source: &S,
-    page: &mut Page,
-    place: LangSysPlace,
-    found: LangSys,
-) -> Result<(), AllocError> {
-    match found.required_feature() {
-        Some(index) => {
-            let name = FeatureName { source, index };
-            write!(page, " required {name};")?
+        writeln!(self.page, "Script list: {count}")?;
+        for at in 0..list.count() {
+            self.write_script(at)?;
         }
-        None => page.put(" required none;")?,
+        Ok(())
     }
-    page.put(if found.count == 0 {
-        " no features"
-    } else {
-        " features"
-    })?;
-    for k in 0..found.count {
-        if let Some(index) = source.feature_index(place, k) {
-            page.item(k, FeatureName { source, index })?;
+
+    fn write_script(&mut self, at: u16) -> Result<(), AllocError> {
+        let tag = self.source.script_tag(at);
+        let list = self.source.script(at);
+        let count = Counted {
+            list,
+            thing: "language system",
+        };
+        writeln!(self.page, "  {at} {tag}: {count}")?;
+        if let Standing::There(_) = list {
+            self.page.put("    default:")?;
+            self.write_lang_sys(LangSysPlace::Default { script: at })?;
+        }
+        for k in 0..list.count() {
+            let tag = self.source.lang_sys_tag(at, k);
+            write!(self.page, "    {k} {tag}:")?;
+            let place = LangSysPlace::Record {
+                script: at,
+                lang_sys: k,
+            };
+            self.write_lang_sys(place)?;
+        }
+        Ok(())
+    }
+
+    fn write_lang_sys(&mut self, place: LangSysPlace) -> Result<(), AllocError> {
+        match self.source.lang_sys(place) {
+            Standing::Absent => self.page.line(" absent"),
+            Standing::Unreadable => self.page.line(" unreadable"),
+            Standing::There(found) => self.write_indices(place, found),
         }
     }
-    page.end()
+
+    // The required feature, and the listed ones.
+    fn write_indices(&mut self, place: LangSysPlace, found: LangSys) -> Result<(), AllocError> {
+        match found.required_feature() {
+            Some(index) => {
+                let name = self.feature_name(index);
+                write!(self.page, " required {name};")?
+            }
+            None => self.page.put(" required none;")?,
+        }
+        self.page.put(if found.count == 0 {
+            " no features"
+        } else {
+            " features"
+        })?;
+        for k in 0..found.count {
+            if let Some(index) = self.source.feature_index(place, k) {
+                let name = self.feature_name(index);
+                self.page.item(k, name)?;
+            }
+        }
+        self.page.end()
+    }
 }

@@ -1,5 +1,4 @@
 // What is done with a table: it is shown, or its features are numbered.
-use crate::show::show_table;
 use crate::troubles::Fault;
 use console::{Page, SetWords};
 use font::{Part, find_table};
@@ -13,16 +12,6 @@ use table::Table;
 // What is told of a table under a heading.
 pub(crate) trait Task<'a>: Copy {
     fn page<S: Source>(self, heap: Global, source: &S, heading: &str) -> Result<Page, Fault<'a>>;
-}
-
-// Each part of the table is told.
-#[derive(Clone, Copy)]
-pub(crate) struct Show;
-
-impl<'a> Task<'a> for Show {
-    fn page<S: Source>(self, heap: Global, source: &S, heading: &str) -> Result<Page, Fault<'a>> {
-        Ok(show_table(heap, source, heading)?)
-    }
 }
 
 // The features are numbered that the words keep.
