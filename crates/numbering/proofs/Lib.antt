@@ -16,3 +16,4 @@ pub mod Whole
 pub mod Ordered
 pub mod Lawful
 pub mod Chaining
+pub mod Comparing

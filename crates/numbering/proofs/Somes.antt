@@ -1,10 +1,9 @@
 -- Steps over a list in which some places are left out.
-use Rattle.std.proofs.Common.{◌≡◌, ℕ, zero, suc, ◌+◌, ◌≤◌, Bool, true, false, cond, ◌&&◌, eqb, List, [], ◌∷◌, map, length, get_or, drop, Some, None, filter, Option, sym, refl, ap, ◌∙◌, add-one, arith}
+use Rattle.std.proofs.Common.{◌≡◌, ℕ, zero, suc, ◌+◌, ◌≤◌, Bool, true, false, cond, List, [], ◌∷◌, map, length, get_or, drop, Some, None, filter, Option, sym, refl, ap, ◌∙◌, add-one, arith}
 use Rattle.std.proofs.lemmas.List.{drop_all}
-use Rattle.std.proofs.lemmas.Bool.{eq-eqb, ne_eqb}
 use Rattle.std.specs.Bool.{then_some}
 use Rattle.std.specs.List.{slice_get}
-use Rattle.numbering.specs.Sets.{among, somes, equal_lists, place_by, if_among}
+use Rattle.numbering.specs.Sets.{among, somes, place_by, if_among}
 
 skips : (xs : List (Option ℕ)) (k : ℕ) → get_or xs k None ≡ None → somes (drop k xs) ≡ somes (drop (suc k) xs)
 skips [] zero e = refl
@@ -28,28 +27,7 @@ given xs k x e = rw add-one (takes xs k x e)
 pub none_left : (xs : List (Option ℕ)) (k : ℕ) → length xs ≤ k → somes (drop k xs) ≡ []
 none_left xs k h = ap somes (drop_all k xs h)
 
--- two lists are compared from a place of each on
-
-module _ (xs : List (Option ℕ)) (ys rest : List ℕ) (i x : ℕ) (e : get_or xs i None ≡ Some x) where
-  pub only-left : ys ≡ [] → equal_lists (somes (drop i xs)) ys ≡ false
-  only-left h = ap (λ l. equal_lists l ys) (given xs i x e) ∙ ap (equal_lists (x ∷ somes (drop (i + 1) xs))) h
-
-  both_left : (y : ℕ) → ys ≡ y ∷ rest → equal_lists (somes (drop i xs)) ys ≡ (eqb x y && equal_lists (somes (drop (i + 1) xs)) rest)
-  both_left y h = ap (λ l. equal_lists l ys) (given xs i x e) ∙ ap (equal_lists (x ∷ somes (drop (i + 1) xs))) h
-
-  pub differ : (y : ℕ) → ys ≡ y ∷ rest → (x ≡ y → ⊥) → equal_lists (somes (drop i xs)) ys ≡ false
-  differ y h n = both_left y h ∙ ap (λ t. t && equal_lists (somes (drop (i + 1) xs)) rest) (ne_eqb x y n)
-
-  pub agree : (y : ℕ) → ys ≡ y ∷ rest → x ≡ y → equal_lists (somes (drop i xs)) ys ≡ equal_lists (somes (drop (i + 1) xs)) rest
-  agree y h n = both_left y h ∙ ap (λ t. t && equal_lists (somes (drop (i + 1) xs)) rest) (eq-eqb x y n)
-
-pub neither_left : (xs ys : List ℕ) → xs ≡ [] → ys ≡ [] → equal_lists xs ys ≡ true
-neither_left xs ys e h = ap (λ l. equal_lists l ys) e ∙ ap (equal_lists []) h
-
-pub other-left : (xs ys : List ℕ) {y : ℕ} {rest : List ℕ} → xs ≡ [] → ys ≡ y ∷ rest → equal_lists xs ys ≡ false
-other-left xs ys e h = ap (λ l. equal_lists l ys) e ∙ ap (equal_lists []) h
-
-pub ruleset turns = (left_out, given, none_left, only-left, differ, agree, neither_left, other-left)
+pub ruleset turns = (left_out, given, none_left)
 
 -- a list under a function that leaves some out
 place_of : (f : ℕ → Option ℕ) (xs : List ℕ) (k : ℕ) → get_or (map f xs) k None ≡ place_by f (slice_get xs k)

@@ -1,5 +1,5 @@
 // The numbering: from kept sets to the retained features and their numbers.
-ghost use Rattle.std.specs.Prelude.{◌≡◌, ◌≤◌, map, length, IfOk};
+ghost use Rattle.std.specs.Prelude.{◌≤◌, map, length, IfOk};
 ghost use Rattle.numbering.specs.Systems.{code_of};
 ghost use Rattle.numbering.specs.Numbering.{held_pairs, Answered, TurnedAway, RefusedWith, NumberedOrNot};
 
