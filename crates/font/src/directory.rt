@@ -56,6 +56,7 @@ pub(crate) fn find_record(file: &[u8], number: usize, tag: u32) -> Option<usize>
     ensures value { result ≡ first_from file.now tag 0 number }
     ensures within { IfSome result (λ at. at + 16 ≤ length file.now) }
 {
+    // By number, since what is answered is the record's place in the file.
     for i in 0..number {
         let at = 12 + 16 * i;
         if u32_at(file, at) == Some(tag) {

@@ -9,7 +9,7 @@ pub fn bytes_at<const N: usize>(bytes: &[u8], at: usize) -> Option<[u8; N]>
     bytes.get(at..)?.first_chunk().copied()
 }
 
-// The 16-bit number at a place.
+// The 16-bit number at a place. One function for both sizes would need a trait over `from_be_bytes`, and is no plainer.
 pub fn u16_at(bytes: &[u8], at: usize) -> Option<u16>
     ensures { result ≡ short_in bytes.now at }
 {

@@ -7,7 +7,8 @@ ghost use Rattle.keys.specs.Orders.{Ordered, Compared};
 use std::cmp::Ordering;
 
 // A type whose values stand in a total order. Of two keys exactly one holds: the first is before the second, they
-// are the same key, or the second is before the first. Its `cmp` tells which.
+// are the same key, or the second is before the first. Its `cmp` tells which. `Ord` alone is no plainer: contracts would
+// say `cmp x y ≡ Less` where they now say `x < y`.
 pub trait Key: Copy + Ord {
     ghost before: { Self → Self → Type 0 };
 

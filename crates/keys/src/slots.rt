@@ -31,6 +31,7 @@ pub fn contains<K: Key>(keys: &[K], key: K) -> bool
 pub fn is_ascending<K: Key>(keys: &[K]) -> bool
     ensures { Decides result (Ascending K.before keys.now) }
 {
+    // Tried as `keys.iter().is_sorted_by(..)`: the proof didn't close.
     for i in 1..keys.len() {
         if !keys[i - 1].order(keys[i]).is_lt() {
             return false;
@@ -50,6 +51,9 @@ fn put<K: Key>(slots: &mut [K], at: usize, end: usize, key: K)
     slots[at] = key;
 }
 
+// The slots are lent, with how many of them are filled beside: the library has no heap, and a caller has the slots in a
+// table of its own.
+//
 // Puts `key` among the first `len` slots, which are filled in order, and answers how many are filled then.
 pub fn insert<K: Key>(slots: &mut [K], len: usize, key: K) -> Result<usize, Full>
     ensures inserted { Inserted K.before K.same len key slots.old slots.new result }

@@ -1,7 +1,8 @@
 ghost use Rattle.std.specs.Prelude.{◌≡◌};
 ghost use Rattle.source.specs.Standings.{there, unreadable, counted, required_of};
 
-// How a part of a table stands: no offset leads to it, it does not fit in the table, or it can be read.
+// How a part of a table stands: no offset leads to it, it does not fit in the table, or it can be read. An
+// `Option<Result<T, Unreadable>>` would nest the three cases in two types, and is no plainer.
 #[derive(Clone, Copy, PartialEq, Eq, Debug)]
 pub enum Standing<T> {
     Absent,
@@ -39,7 +40,8 @@ impl Standing<u16> {
     }
 }
 
-// What a language system says besides its feature indices.
+// What a language system says besides its feature indices. The required index is the table's own number, so that two
+// systems compare by it; `required_feature` reads it.
 #[derive(Clone, Copy, PartialEq, Eq, Debug)]
 pub struct LangSys {
     pub required: u16,
