@@ -43,6 +43,7 @@ fn main(rt: HostRuntime) -> ExitCode {
     }
 }
 
+// Each program says in words of its own what is wrong, so one function for all of them would be no plainer.
 fn start(rt: &HostRuntime) -> Result<(), Failed> {
     match env::args(rt) {
         Ok(args) => match args.skip(1).collect::<Vec<String>>(rt.alloc()) {

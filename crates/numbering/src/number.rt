@@ -16,7 +16,8 @@ use source::{Refusal, Source};
 
 // What becomes of the kept features. `survivors` are those that survive, ascending; `earliest` has the earliest match
 // of each survivor up to the first that cannot be read. `retained` are the indices that keep a number, ascending, and
-// `numbers` has the number of each; `own` numbers are different. `pairs` are the language systems that are kept.
+// `numbers` has the number of each, beside and not in pairs, since what cuts a list takes the retained indices as a set;
+// `own` numbers are different. `pairs` are the language systems that are kept.
 #[derive(Drop)]
 pub struct Numbering {
     pub survivors: Indices,

@@ -16,7 +16,7 @@ pub(crate) fn u16_at(bytes: &[u8], at: usize) -> u16
     u16::from_be_bytes([byte_at(bytes, at), byte_at(bytes, at + 1)])
 }
 
-// The 32-bit number at a place.
+// The 32-bit number at a place. One function for both sizes would need a trait over `from_be_bytes`, and is no plainer.
 pub(crate) fn u32_at(bytes: &[u8], at: usize) -> u32
     requires { at + 4 < 2 ^ 64 }
     ensures { result ≡ u32_at bytes.now at }
