@@ -25,6 +25,7 @@ impl fmt::Display for Fixed {
     fn fmt<W: fmt::Write>(&self, f: &mut fmt::Formatter<W>) -> fmt::Result {
         let sign = if self.0 < 0x8000 { "" } else { "-" };
         let n = ten_thousandths(self.0);
+        // Tried as `{rest:04}`: the proof didn't close.
         let (a, b, c, d) = (n / 1000 % 10, n / 100 % 10, n / 10 % 10, n % 10);
         let whole = n / 10000;
         write!(f, "{sign}{whole}.{a}{b}{c}{d}")

@@ -86,8 +86,8 @@ impl fmt::Display for Trouble<'_> {
                     "cannot read '{path}': {why}; give the path of a font file or of a bare {kind} table"
                 )
             }
-            Fault::Font(fault) => write_font_fault(f, path, kind, fault),
-            Fault::Refused(refusal) => write_refusal(f, path, kind, refusal),
+            Fault::Font(fault) => self.write_font_fault(f, fault),
+            Fault::Refused(refusal) => self.write_refusal(f, refusal),
             Fault::Untold(untold) => write!(f, "{untold}"),
             Fault::Halted(halt) => write!(f, "{halt}"),
         }
@@ -103,69 +103,71 @@ fn unread_reason(reason: ErrorKind) -> &'static str {
     }
 }
 
-fn write_font_fault<W: fmt::Write>(
-    f: &mut fmt::Formatter<W>,
-    path: &str,
-    kind: Kind,
-    fault: FontFault,
-) -> fmt::Result {
-    match fault {
-        FontFault::Collection => {
-            write!(
+impl Trouble<'_> {
+    fn write_font_fault<W: fmt::Write>(
+        &self,
+        f: &mut fmt::Formatter<W>,
+        fault: FontFault,
+    ) -> fmt::Result {
+        let (path, kind) = (self.path, self.kind);
+        match fault {
+            FontFault::Collection => {
+                write!(
+                    f,
+                    "'{path}' is a font collection; take one font out of it, and give the path of that font file"
+                )
+            }
+            FontFault::Compressed => {
+                write!(
+                    f,
+                    "'{path}' is a compressed web font; unpack it to an OpenType font file, and give the path of that"
+                )
+            }
+            FontFault::ShortDirectory => {
+                write!(
+                    f,
+                    "the font file '{path}' ends within its table directory; get a whole copy of the file"
+                )
+            }
+            FontFault::NoTable => write!(
                 f,
-                "'{path}' is a font collection; take one font out of it, and give the path of that font file"
-            )
-        }
-        FontFault::Compressed => {
-            write!(
-                f,
-                "'{path}' is a compressed web font; unpack it to an OpenType font file, and give the path of that"
-            )
-        }
-        FontFault::ShortDirectory => {
-            write!(
-                f,
-                "the font file '{path}' ends within its table directory; get a whole copy of the file"
-            )
-        }
-        FontFault::NoTable => write!(
-            f,
-            "the font file '{path}' has no {kind} table; give the path of a font that has one"
-        ),
-        FontFault::PastEnd => {
-            write!(
-                f,
-                "the {kind} table of '{path}' passes the end of the file; get a whole copy of the file"
-            )
+                "the font file '{path}' has no {kind} table; give the path of a font that has one"
+            ),
+            FontFault::PastEnd => {
+                write!(
+                    f,
+                    "the {kind} table of '{path}' passes the end of the file; get a whole copy of the file"
+                )
+            }
         }
     }
-}
 
-fn write_refusal<W: fmt::Write>(
-    f: &mut fmt::Formatter<W>,
-    path: &str,
-    kind: Kind,
-    refusal: Refusal,
-) -> fmt::Result {
-    let number = refusal.number();
-    match refusal {
-        Refusal::SourceTooLarge => {
-            write!(
-                f,
-                "the {kind} table of '{path}' is over 65535 bytes (refusal {number}); give a font with a smaller {kind} table"
-            )
-        }
-        Refusal::BadHeader => {
-            write!(
-                f,
-                "'{path}' has no {kind} header of major version 1 (refusal {number}); give the path of a font file or of a bare {kind} table"
-            )
-        }
-        Refusal::TooManyPairs => {
-            write!(
-                f,
-                "more than 2048 language systems of '{path}' would be kept (refusal {number}); keep fewer scripts"
-            )
+    fn write_refusal<W: fmt::Write>(
+        &self,
+        f: &mut fmt::Formatter<W>,
+        refusal: Refusal,
+    ) -> fmt::Result {
+        let (path, kind) = (self.path, self.kind);
+        let number = refusal.number();
+        match refusal {
+            Refusal::SourceTooLarge => {
+                write!(
+                    f,
+                    "the {kind} table of '{path}' is over 65535 bytes (refusal {number}); give a font with a smaller {kind} table"
+                )
+            }
+            Refusal::BadHeader => {
+                write!(
+                    f,
+                    "'{path}' has no {kind} header of major version 1 (refusal {number}); give the path of a font file or of a bare {kind} table"
+                )
+            }
+            Refusal::TooManyPairs => {
+                write!(
+                    f,
+                    "more than 2048 language systems of '{path}' would be kept (refusal {number}); keep fewer scripts"
+                )
+            }
         }
     }
 }

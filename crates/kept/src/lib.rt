@@ -8,6 +8,8 @@ mod parts;
 mod runs;
 mod sets;
 mod tags;
+#[cfg(test)]
+mod tests;
 
 pub use indices::read_indices;
 pub use lists::{Unread, read_set};

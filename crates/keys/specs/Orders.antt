@@ -1,10 +1,7 @@
 -- What a key type owes.
 --     Ordered before same       of two keys exactly one holds: the first is before the second, they are the same, or the
 --                               second is before the first; before and same are transitive
---     Compared before same cmp  cmp tells which of the three holds
 use Rattle.std.specs.Prelude.{◌⊎◌}
-use Rattle.std.specs.declared.cmp.Ordering.{Ordering}
-use Rattle.std.specs.Ordering.{MatchOrdering}
 
 pub record Ordered {X : Type 0} (before same : X → X → Type 0) : Type 0 where
   pub total : (x y : X) → before x y ⊎ (same x y ⊎ before y x)
@@ -13,6 +10,3 @@ pub record Ordered {X : Type 0} (before same : X → X → Type 0) : Type 0 wher
   pub same_not_after : (x y : X) → same x y → before y x → ⊥
   pub before_trans : (x y z : X) → before x y → before y z → before x z
   pub same_trans : (x y z : X) → same x y → same y z → same x z
-
-abbrev pub Compared : {X : Type 0} → (X → X → Type 0) → (X → X → Type 0) → (X → X → Ordering) → Type 0
-Compared {X} before same cmp = (x y : X) → MatchOrdering (cmp x y) (before x y) (same x y) (before y x)

@@ -20,8 +20,6 @@ impl Key for Pair {
 
     ghost laws = { Prim.search rules };
 
-    ghost compared = { Prim.search rules };
-
     fn order(self, other: Pair) -> Ordering {
         self.cmp(&other)
     }

@@ -4,18 +4,29 @@ ghost use Rattle.std.specs.List.{insert};
 ghost use Rattle.keys.specs.Slots.{Ascending, Held, Found, Placed, filled, Inserted, Joined};
 
 use crate::order::Key;
+use std::cmp::Ordering;
 
 // No slot is free.
 #[derive(Clone, Copy, PartialEq, Eq, Debug)]
 pub struct Full;
 
 // The place of `key` in keys that ascend, or the place where it would go.
-#[tactic(auto, using(crate::proofs::Searches::found))]
 pub fn find<K: Key>(keys: &[K], key: K) -> Result<usize, usize>
     ensures found { Found K.same keys.now key result }
     ensures placed { Ascending K.before keys.now → Placed K.before K.same keys.now key result }
 {
-    keys.binary_search(&key)
+    // Tried as `binary_search_by`: the proof didn't close, since it wants a function where `order` has relations.
+    let mut low = 0;
+    let mut high = keys.len();
+    while low < high {
+        let mid = low + (high - low) / 2;
+        match keys[mid].order(key) {
+            Ordering::Less => low = mid + 1,
+            Ordering::Equal => return Ok(mid),
+            Ordering::Greater => high = mid,
+        }
+    }
+    Err(low)
 }
 
 // Whether `key` is among keys that ascend.
@@ -51,8 +62,7 @@ fn put<K: Key>(slots: &mut [K], at: usize, end: usize, key: K)
     slots[at] = key;
 }
 
-// The slots are lent, with how many of them are filled beside: the library has no heap, and a caller has the slots in a
-// table of its own.
+// The slots are lent, with how many of them are filled beside, since the library has no heap.
 //
 // Puts `key` among the first `len` slots, which are filled in order, and answers how many are filled then.
 pub fn insert<K: Key>(slots: &mut [K], len: usize, key: K) -> Result<usize, Full>

@@ -42,8 +42,6 @@ impl Key for Tag {
 
     ghost laws = { Prim.search rules };
 
-    ghost compared = { Prim.search rules };
-
     #[tactic(auto, using(crate::proofs::Codes::by_bytes))]
     fn order(self, other: Tag) -> Ordering
         ensures ranked { MatchOrdering result (TagBefore self other) (TagSame self other) (TagBefore other self) }

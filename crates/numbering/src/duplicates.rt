@@ -11,7 +11,8 @@ pub(crate) trait Earlier {
     // The survivors below a place have joined, under a reading and kept lookups.
     ghost holds: { Self → Reading → List ℕ → List ℕ → ℕ → Type 0 };
 
-    // Finds the earliest match of the survivor at a place, which joins. Those of the survivors before it are known.
+    // Finds the earliest match of the survivor at a place, which joins. Those of the survivors before it are known. The
+    // slices and the place go together through this call alone, so a struct of them would be no plainer.
     fn join<S: Source>(
         &mut self,
         subset: &Subset<'_, '_, S>,

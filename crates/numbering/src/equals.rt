@@ -13,7 +13,7 @@ use keys::find;
 use source::{LangSysPlace, Source, Standing};
 
 // Indices that ascend, at most 512, each with its earliest match beside it. They are two slices, not one of pairs, since
-// callers of `join_features` lend them so.
+// the stage before writes them so, into slices that are lent.
 #[derive(Clone, Copy)]
 pub(crate) struct Matches<'a> {
     pub(crate) matched: &'a [u16],

@@ -7,7 +7,8 @@ use crate::sets::IndexSet;
 use crate::subset::Subset;
 use source::Source;
 
-// How many features survive, and how many of those have an earliest match.
+// How many features survive, and how many of those have an earliest match. The lists themselves stand in slices that the
+// caller lends.
 #[derive(Clone, Copy, PartialEq, Eq, Debug)]
 pub struct Joins {
     pub survivors: usize,

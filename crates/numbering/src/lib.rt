@@ -21,4 +21,4 @@ pub use filled::{Filled, Indices, Pairs};
 pub use joins::{Joins, join_features};
 pub use number::{Numbering, Unnumbered, number_features, number_kept};
 pub use remap::place_in;
-pub use sets::{KeptSets, NotKeptSets};
+pub use sets::{KeptSets, MAX_FEATURES, MAX_LOOKUPS, MAX_SCRIPTS, NotKeptSets};

@@ -16,8 +16,8 @@ use source::{Refusal, Source};
 
 // What becomes of the kept features. `survivors` are those that survive, ascending; `earliest` has the earliest match
 // of each survivor up to the first that cannot be read. `retained` are the indices that keep a number, ascending, and
-// `numbers` has the number of each, beside and not in pairs, since what cuts a list takes the retained indices as a set;
-// `own` numbers are different. `pairs` are the language systems that are kept.
+// `numbers` has the number of each; `own` numbers are different. The lists stand beside one another and not in pairs: an
+// index is looked up among the indices alone, and `earliest` ends where `survivors` goes on, so pairs are no plainer. `pairs` are the language systems that are kept.
 #[derive(Drop)]
 pub struct Numbering {
     pub survivors: Indices,
@@ -56,7 +56,8 @@ pub fn number_kept<S: Source>(source: &S, sets: &KeptSets<'_>) -> Result<Numberi
     ensures answered { Answered (S.reading source.now) sets.now.lookups.now sets.now.features.now (map code_of sets.now.scripts.now) result }
     ensures few { IfOk result (λ n. length (held_pairs n.pairs) ≤ 2048) }
 {
-    // Each table has its count beside it until the end, since the stages write slices, as `join_features` lends them.
+    // Each table has its count beside it until the end: two stages write slices that `join_features` lends, and the others
+    // read what those wrote, so tables that grow would be no plainer.
     let mut survivors = [0; 512];
     let mut earliest = [0; 512];
     let subset = Subset {
@@ -92,7 +93,7 @@ pub fn number_kept<S: Source>(source: &S, sets: &KeptSets<'_>) -> Result<Numberi
     })
 }
 
-// Numbers the features that a site keeps, or turns sets away that are none.
+// Numbers the features that a site keeps, unless the slices are no kept sets.
 pub fn number_features<S: Source>(
     source: &S,
     lookups: &[u16],

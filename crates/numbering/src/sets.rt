@@ -6,11 +6,11 @@ ghost use Rattle.numbering.specs.Numbering.{Kept};
 use keys::{Tag, contains, is_ascending};
 
 // The sizes of kept sets.
-const MAX_LOOKUPS: usize = 1024;
+pub const MAX_LOOKUPS: usize = 1024;
 
-const MAX_FEATURES: usize = 512;
+pub const MAX_FEATURES: usize = 512;
 
-const MAX_SCRIPTS: usize = 64;
+pub const MAX_SCRIPTS: usize = 64;
 
 // Indices that ascend.
 #[derive(Clone, Copy)]

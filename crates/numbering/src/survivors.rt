@@ -69,6 +69,7 @@ impl<'a, 'b, S: Source> Subset<'a, 'b, S> {
         ensures list { take result out.new ≡ survivors (S.reading self.now.source.now) self.now.lookups.items.now features.now }
     {
         let unread = alternates_unread(self.source);
+        // The place to write at is counted, since the slice is lent.
         let mut n = 0;
         for i in features {
             let Standing::There(survives) = self.judge(unread, *i) else {

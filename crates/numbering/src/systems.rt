@@ -29,6 +29,8 @@ pub(crate) struct PruneLangSysContext {
     pub(crate) pairs: Pairs,
 }
 
+// Each step says what it makes of a walk that agrees with the context. The walk is a value of proofs alone, so the context
+// can't hold it, and a type for it would be no plainer.
 impl PruneLangSysContext {
     pub(crate) fn new() -> PruneLangSysContext
         ensures { (ms : List ℕ) → length ms ≤ 512 → Agrees ms result no_walk }
@@ -233,6 +235,7 @@ impl PruneLangSysContext {
         ensures count { result ≡ length (chosen self.now.named from.now) }
         ensures list { take result out.new ≡ chosen self.now.named from.now }
     {
+        // The place to write at is counted, since the slice is lent.
         let mut n = 0;
         for (p, number) in from.iter().enumerate() {
             if self.named[p] {

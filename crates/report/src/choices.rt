@@ -8,6 +8,7 @@ use crate::named::{all_features, all_lookups, all_scripts};
 use console::SetWords;
 use kept::{Part, Run, Unread, read_set};
 use keys::Tag;
+use numbering::{MAX_FEATURES, MAX_LOOKUPS, MAX_SCRIPTS};
 use source::Source;
 use std::alloc::{AllocError, Global};
 
@@ -59,7 +60,7 @@ struct Lookups;
 impl Choice for Lookups {
     type Part = Run;
 
-    const MOST: usize = 1024;
+    const MOST: usize = MAX_LOOKUPS;
 
     ghost MOST = { 1024 };
 
@@ -81,7 +82,7 @@ struct Features;
 impl Choice for Features {
     type Part = Run;
 
-    const MOST: usize = 512;
+    const MOST: usize = MAX_FEATURES;
 
     ghost MOST = { 512 };
 
@@ -103,7 +104,7 @@ struct Scripts;
 impl Choice for Scripts {
     type Part = Tag;
 
-    const MOST: usize = 64;
+    const MOST: usize = MAX_SCRIPTS;
 
     ghost MOST = { 64 };
 

@@ -1,4 +1,4 @@
-use source::Refusal;
+use numbering::{MAX_FEATURES, MAX_LOOKUPS, MAX_SCRIPTS};
 use std::alloc::AllocError;
 use std::fmt;
 
@@ -21,13 +21,6 @@ impl<'a> From<AllocError> for Untold<'a> {
     }
 }
 
-// A numbering is refused where too many language systems would be kept, and for no other reason.
-impl<'a> From<Refusal> for Untold<'a> {
-    fn from(_refusal: Refusal) -> Untold<'a> {
-        Untold::TooManyPairs
-    }
-}
-
 impl fmt::Display for Untold<'_> {
     fn fmt<W: fmt::Write>(&self, f: &mut fmt::Formatter<W>) -> fmt::Result {
         match *self {
@@ -43,9 +36,9 @@ impl fmt::Display for Untold<'_> {
                     "'{word}' is no list of script tags; write tags with commas, as latn,DFLT, or 'all' or 'none'"
                 )
             }
-            Untold::TooManyLookups(count) => write_too_many(f, "lookups", count, 1024),
-            Untold::TooManyFeatures(count) => write_too_many(f, "features", count, 512),
-            Untold::TooManyScripts(count) => write_too_many(f, "script tags", count, 64),
+            Untold::TooManyLookups(count) => write_too_many(f, "lookups", count, MAX_LOOKUPS),
+            Untold::TooManyFeatures(count) => write_too_many(f, "features", count, MAX_FEATURES),
+            Untold::TooManyScripts(count) => write_too_many(f, "script tags", count, MAX_SCRIPTS),
             Untold::TooManyPairs => {
                 write!(
                     f,

@@ -43,7 +43,7 @@ fn write_number(page: &mut Page, number: u16, like: Option<u16>) -> Result<(), A
 impl<'a, S: Source> Account<'a, S> {
     // The kept lookups of a feature.
     fn write_kept_lookups(&self, page: &mut Page, place: FeaturePlace) -> Result<(), AllocError> {
-        let mut before = 0;
+        let mut before: u16 = 0;
         for k in 0..self.source.feature(place).count() {
             if let Some(lookup) = self.source.lookup(place, k) {
                 if contains(self.sets.lookups.as_slice(), lookup) {
@@ -51,7 +51,7 @@ impl<'a, S: Source> Account<'a, S> {
                         page.put(" kept lookups")?;
                     }
                     page.item(before, lookup)?;
-                    before = 1;
+                    before = before.saturating_add(1);
                 }
             }
         }

@@ -36,7 +36,8 @@ pub fn tell_numbering<'a, S: Source>(
     words: SetWords<'a>,
 ) -> Result<Page, Untold<'a>> {
     let sets = keep(heap, source, words)?;
-    let numbering = number_kept(source, &sets.lent())?;
+    // Of kept sets a numbering is refused for one reason alone.
+    let numbering = number_kept(source, &sets.lent()).map_err(|_| Untold::TooManyPairs)?;
     let mut page = Page::new(heap);
     page.line(heading)?;
     page.end()?;

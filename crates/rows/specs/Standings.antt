@@ -1,14 +1,8 @@
 -- Words on a function that is called at a part, if it is there.
---   ForThere s P     P of the part, if it is there
 --   Follows s R t    t is in the relation R to the part of s, and stands as s does where none is there
 use Rattle.std.specs.Prelude.{◌≡◌}
 use Rattle.source.specs.declared.parts.Standing.{Standing}
 use Rattle.source.specs.declared.parts.Standing.TheVariants.{Absent, Unreadable, There}
-
-abbrev pub ForThere : {X : Type 0} → Standing X → (X → Type 0) → Type 0
-ForThere Absent P = Unit {0}
-ForThere Unreadable P = Unit {0}
-ForThere (There x) P = P x
 
 abbrev pub Follows : {X Y : Type 0} → Standing X → (X → Standing Y → Type 0) → Standing Y → Type 0
 Follows Absent R t = t ≡ Absent

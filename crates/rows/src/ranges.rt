@@ -1,9 +1,9 @@
 ghost use Rattle.std.specs.Prelude.{◌≡◌, ◌≤◌, length, take};
 ghost use Rattle.std.specs.List.{slice_get};
-ghost use Rattle.source.specs.Standings.{mapped, listed};
+ghost use Rattle.source.specs.Standings.{mapped, listed, ForThere};
 ghost use Rattle.rows.specs.Format.{ranged};
 ghost use Rattle.rows.specs.Sizes.{most_rows};
-ghost use Rattle.rows.specs.Standings.{ForThere, Follows};
+ghost use Rattle.rows.specs.Standings.{Follows};
 
 use crate::slices::MOST_ROWS;
 use source::Standing;

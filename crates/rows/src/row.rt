@@ -15,6 +15,8 @@ pub struct FeatureRow {
     pub count: u16,
 }
 
+// Each of the rows names its range as what it is; one type of range in their place would change the fields that others
+// write.
 impl FeatureRow {
     // The lookups, if they lie within the pool.
     pub(crate) fn lookups(self, pool: &[u16]) -> Standing<&[u16]>
@@ -31,7 +33,7 @@ pub struct LangSysRow {
     pub tag: Tag,
     pub first: u16,
     pub count: u16,
-    // A number and no option, since the row is the table's own record.
+    // A number and no option: whoever writes rows writes numbers, and another type would ask more of them.
     pub required: u16,
 }
 
@@ -62,7 +64,7 @@ impl LangSysRow {
 #[derive(Clone, Copy)]
 pub struct ScriptRow {
     pub tag: Tag,
-    // A number and no option, since the row is the table's own record.
+    // A number and no option: whoever writes rows writes numbers, and another type would ask more of them.
     pub default: u16,
     pub first: u16,
     pub count: u16,

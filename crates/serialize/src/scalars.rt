@@ -9,6 +9,7 @@ use crate::sinks::Serializer;
 pub trait Scalar: Copy {
     ghost code: { Self → List ℕ };
 
+    // A slice of it could not be handed out, and an array of each size would make the trait's caller generic: no plainer.
     fn raw(self) -> ([u8; 4], usize)
         ensures raw { (result.1 ≤ 4) × (take result.1 result.0 ≡ code self) };
 }

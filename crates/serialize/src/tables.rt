@@ -16,7 +16,8 @@ pub struct Link {
     pub width: Width,
 }
 
-// How much of the work buffer and of each table is in use.
+// How much of the work buffer and of each table is in use. The counts stand beside the tables, and objects are known by
+// numbers, since there is no heap and a mark sets all counts back at once.
 #[derive(Clone, Copy, Default)]
 pub struct Counts {
     pub(crate) head: u32,

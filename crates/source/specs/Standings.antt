@@ -4,6 +4,7 @@
 --   there s       the part, if it is there
 --   unreadable s  whether it does not fit in the table
 --   counted s     the count that is there, or 0
+--   ForThere s P  P of the part, if it is there
 --   required_of i the index of a required feature, of which 65,535 is none
 use Rattle.std.specs.Prelude.{ℕ, Bool, true, false, cond, List, [], Option, Some, None, ◌==◌}
 use Rattle.source.specs.declared.parts.Standing.{Standing}
@@ -33,6 +34,11 @@ abbrev pub unreadable : {X : Type 0} → Standing X → Bool
 unreadable Absent = false
 unreadable Unreadable = true
 unreadable (There x) = false
+
+abbrev pub ForThere : {X : Type 0} → Standing X → (X → Type 0) → Type 0
+ForThere Absent P = Unit {0}
+ForThere Unreadable P = Unit {0}
+ForThere (There x) P = P x
 
 abbrev pub required_of : ℕ → Option ℕ
 required_of i = cond (i == 65535) None (Some i)

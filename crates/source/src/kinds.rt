@@ -1,5 +1,5 @@
 // The kinds of layout table, by name and by tag.
-ghost use Rattle.std.specs.Prelude.{Some};
+ghost use Rattle.std.specs.Prelude.{◌≡◌, Some};
 ghost use Rattle.source.specs.Kinds.{kind_text, Names, Tagged};
 
 use keys::Tag;
@@ -11,6 +11,17 @@ use std::str::FromStr;
 pub enum Kind {
     Gsub,
     Gpos,
+}
+
+impl Kind {
+    pub fn name(self) -> &'static str
+        ensures { result.now ≡ kind_text self }
+    {
+        match self {
+            Kind::Gsub => "GSUB",
+            Kind::Gpos => "GPOS",
+        }
+    }
 }
 
 // A text that names no layout table.
@@ -35,10 +46,7 @@ impl fmt::Display for Kind {
     ghost output = { λ k. Some (kind_text k) };
 
     fn fmt<W: fmt::Write>(&self, f: &mut fmt::Formatter<W>) -> fmt::Result {
-        f.write_str(match self {
-            Kind::Gsub => "GSUB",
-            Kind::Gpos => "GPOS",
-        })
+        f.write_str(self.name())
     }
 }
 

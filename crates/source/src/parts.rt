@@ -40,8 +40,8 @@ impl Standing<u16> {
     }
 }
 
-// What a language system says besides its feature indices. The required index is the table's own number, so that two
-// systems compare by it; `required_feature` reads it.
+// What a language system says besides its feature indices. The required index is the table's own number, as the
+// reading has it: an option would need a conversion in the definition, and is no plainer. `required_feature` reads it.
 #[derive(Clone, Copy, PartialEq, Eq, Debug)]
 pub struct LangSys {
     pub required: u16,

@@ -13,7 +13,8 @@ use keys::Tag;
 
 // A source answers questions about one layout table. Its meaning is its reading, a fixed value, and each
 // answer is a part of that reading. A question never refuses and changes nothing: past a list's end, or
-// of a list that is not there, a part is absent, a tag is 0 and a number is none.
+// of a list that is not there, a part is absent, a tag is 0 and a number is none. (That a tag is 0, and no option, is what
+// callers were promised.)
 pub trait Source {
     ghost reading: { Self → Reading };
 

@@ -1,6 +1,5 @@
 -- Words on a part that may not be there.
 --   part_or s d f    what f makes of the part, or d where none is there
---   ForThere s P     P of the part, if it is there
 --   Mapped s R t     t stands as s does, and its part is in the relation R to that of s
 use Rattle.std.specs.Prelude.{◌≡◌}
 use Rattle.source.specs.declared.parts.Standing.{Standing}
@@ -10,11 +9,6 @@ abbrev pub part_or : {X Y : Type 0} → Standing X → Y → (X → Y) → Y
 part_or Absent d f = d
 part_or Unreadable d f = d
 part_or (There x) d f = f x
-
-abbrev pub ForThere : {X : Type 0} → Standing X → (X → Type 0) → Type 0
-ForThere Absent P = Unit {0}
-ForThere Unreadable P = Unit {0}
-ForThere (There x) P = P x
 
 abbrev pub Mapped : {X Y : Type 0} → Standing X → (X → Y → Type 0) → Standing Y → Type 0
 Mapped Absent R t = t ≡ Absent

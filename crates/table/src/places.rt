@@ -1,11 +1,11 @@
 // What is read of a counted table that may not be there, and where its records lead.
 ghost use Rattle.std.specs.Prelude.{◌≡◌, ◌+◌, Some, None};
-ghost use Rattle.source.specs.Standings.{mapped};
+ghost use Rattle.source.specs.Standings.{mapped, ForThere};
 ghost use Rattle.source.specs.declared.parts.Standing.TheVariants.{Absent};
 ghost use Rattle.table.specs.Format.{u16_at, u32_at, led};
 ghost use Rattle.table.specs.Places.{at_entry};
 ghost use Rattle.table.specs.Spots.{placed, spots, found};
-ghost use Rattle.table.specs.Standings.{ForThere, Mapped};
+ghost use Rattle.table.specs.Standings.{Mapped};
 
 use crate::counted::Counted;
 use crate::layouts::Part;

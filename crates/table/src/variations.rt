@@ -5,7 +5,8 @@ use crate::fields::u32_at;
 use crate::place::Place;
 use source::Standing;
 
-// A variation list, whose records are counted by 32 bits and lie within the bytes.
+// A variation list, whose records are counted by 32 bits and lie within the bytes. Its count stands at another place and in
+// another width than that of a `Part`, so one type for both would be no plainer.
 #[derive(Drop)]
 pub(crate) struct VariationList<'a> {
     pub(crate) bytes: &'a [u8],

@@ -11,12 +11,7 @@ fn digit_value(byte: u8) -> Option<u8>
     ensures value { result ≡ digit_by byte }
     ensures bound { IfSome result (λ d. d < 16) }
 {
-    match byte {
-        b'0'..=b'9' => Some(byte - b'0'),
-        b'a'..=b'f' => Some(byte - b'a' + 10),
-        b'A'..=b'F' => Some(byte - b'A' + 10),
-        _ => None,
-    }
+    char::from(byte).to_digit(16).map(|digit| digit as u8)
 }
 
 // The byte that two hexadecimal digits give.
