@@ -103,6 +103,7 @@ fn on_builtin<'a, T: Task<'a>>(rt: &HostRuntime, task: T) -> Result<(), Failed> 
     settle(rt, Kind::Gsub, "built in", work_builtin(rt, task))
 }
 
+// Kind and path are the words of one request, which end here and in what is told of a fault.
 fn on_file<'a, T: Task<'a>>(
     rt: &HostRuntime,
     kind: Kind,

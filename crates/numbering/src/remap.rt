@@ -28,7 +28,8 @@ pub(crate) fn remap_feature_indices(
     ensures rest { drop (length retained.now) numbers.new ≡ drop (length retained.now) numbers.old }
 {
     let mut own = 0;
-    // By index: a turn reads both slices before `k` and writes at `k`, so no iterator over one of them is plainer.
+    // By index: a turn reads both slices before `k` and writes at `k`, so no iterator over one of them is plainer. The
+    // slice is lent, with room for all.
     for k in 0..retained.len() {
         match place_in(&retained[0..k], earliest[k]) {
             Some(q) => numbers[k] = numbers[q],

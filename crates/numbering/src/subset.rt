@@ -7,7 +7,8 @@ ghost use Rattle.numbering.specs.Sets.{among, any, passes};
 use crate::sets::IndexSet;
 use source::{FeaturePlace, Source};
 
-// A source, and the lookups of it that are kept.
+// A source, and the lookups of it that are kept. What its functions write goes to slices that are lent, so each asks for
+// room in its own.
 #[derive(Drop)]
 pub(crate) struct Subset<'a, 'b, S> {
     pub(crate) source: &'a S,
