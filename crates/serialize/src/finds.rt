@@ -10,7 +10,8 @@ use crate::sinks::Serializer;
 use crate::tables::{Counts, Link};
 
 // A packed object is asked for by its number, and an open one by the counts at its opening. Each function takes them with
-// their bound, which is of this sink at this moment: a type of such numbers could not hold it, so it is no plainer.
+// their bound, which is of this sink at this moment: a type of such numbers could not hold it, so it is no plainer. An
+// object's bytes, links and hash go together through `find` and `equals` alone; a struct lent there would be no plainer.
 impl Serializer<'_> {
     // The bytes of the packed object `i`.
     pub(crate) fn bytes(&self, i: u16) -> &[u8]

@@ -43,6 +43,7 @@ pub(crate) fn replay(heap: Global, page: &mut Page, text: &str) -> Result<Tally,
     ensures { IfOk result (λ t. t.same ≤ t.cases) }
 {
     let lines = text.lines().collect::<Vec<&str>>(heap)?;
+    // The cases are counted, since their number is told.
     let (mut cases, mut same) = (0, 0);
     let mut left = lines.as_slice();
     while let [case, wanted, rest @ ..] = left {
