@@ -1,7 +1,7 @@
 -- One part more of a list.
-use Rattle.std.proofs.Common.{◌≡◌, ℕ, ◌+◌, ◌<◌, List, [], map, length, get_or, IfSome, Option, Ok, Result, sym, ap, ◌∙◌, subst, inl, inr, ⊎_elim, arith, Bor, below_more}
+use Rattle.std.proofs.Common.{◌≡◌, ℕ, ◌+◌, ◌<◌, List, [], length, get_or, IfSome, Option, Ok, Result, ap, ◌∙◌, subst, inl, inr, ⊎_elim, arith, below_more}
 use Rattle.std.specs.Result.{result_ok}
-use Rattle.std.proofs.lemmas.List.{get_or-map}
+use Rattle.std.proofs.lemmas.List.{get_or_default}
 use Rattle.kept.specs.Cuts.{Gains, Covers}
 
 module _ {W X : Type 0} (same : X → X → Type 0) (says : List ℕ → W → Type 0) (has : W → X → Type 0) (ps : List (List ℕ)) where
@@ -21,7 +21,7 @@ module _ {W X : Type 0} (same : X → X → Type 0) (says : List ℕ → W → T
   )
 
 -- what the text of the part at a place was read as
-pub read_at : {W E : Type 0} (says : List ℕ → W → Type 0) (xs : List (Bor (List ℕ))) (k : ℕ) (d : Bor (List ℕ)) (r : Option W) (q : Result W E) (w : W) → k < length xs → r ≡ result_ok q → q ≡ Ok w → IfSome r (says (get_or xs k d).now) → says (get_or (map (λ x. x.now) xs) k []) w
-read_at says xs k d r q w within as_ok was read =
-    let said = subst (λ o. IfSome o (says (get_or xs k d).now)) (as_ok ∙ ap result_ok was) read in
-    subst (λ t. says t w) (sym (get_or-map (λ x. x.now) xs k d [] within)) said
+pub read_at : {W E : Type 0} (says : List ℕ → W → Type 0) (ps : List (List ℕ)) (k : ℕ) (bs : List ℕ) (r : Option W) (q : Result W E) (w : W) → k < length ps → bs ≡ get_or ps k bs → r ≡ result_ok q → q ≡ Ok w → IfSome r (says bs) → says (get_or ps k []) w
+read_at says ps k bs r q w within is as_ok was read =
+    let said = subst (λ o. IfSome o (says bs)) (as_ok ∙ ap result_ok was) read in
+    subst (λ t. says t w) (is ∙ get_or_default ps k bs [] within) said

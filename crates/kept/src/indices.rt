@@ -1,5 +1,5 @@
 // Sets of indices.
-ghost use Rattle.std.specs.Prelude.{◌+◌, length, IfSome, IfOk, OnOk};
+ghost use Rattle.std.specs.Prelude.{◌+◌, ◌≤◌, length, IfSome, MatchOption, IfOk, OnOk};
 ghost use Rattle.std.specs.Option.{SomeIff};
 ghost use Rattle.kept.specs.Ranges.{index_of, Writes, From, Both, Ranges, InRun, Ascends, Filled, Covers};
 ghost use Rattle.kept.specs.Cuts.{Listed};
@@ -19,7 +19,7 @@ fn read_index(text: &str) -> Option<u16>
 
 // A run, unless it goes backward.
 fn forward(first: u16, last: u16) -> Option<Run>
-    ensures { IfSome result (From first last) }
+    ensures { MatchOption result (first ≤ last → ⊥) (From first last) }
 {
     if first <= last {
         Some(Run { first, last })

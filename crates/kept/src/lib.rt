@@ -1,7 +1,6 @@
 // Kept sets: lists that ascend, with no key twice, and the words that give them.
 #![tactic(auto)]
 
-mod cuts;
 mod indices;
 mod lists;
 mod parts;

@@ -3,7 +3,6 @@ ghost use Rattle.std.specs.Prelude.{length, IfOk};
 ghost use Rattle.keys.specs.Slots.{Ascending};
 ghost use Rattle.kept.specs.Cuts.{Listed, Covers};
 
-use crate::cuts::cut;
 use crate::parts::Part;
 use std::alloc::{AllocError, AllocFailed, Global};
 
@@ -33,7 +32,7 @@ pub fn read_set<P: Part>(heap: Global, text: &str) -> Result<Vec<P::Key>, Unread
     ensures covers { IfOk result (λ v. Listed text.now (λ ps. Covers P.Key.same P.says P.has ps v.items (length ps))) }
 {
     let mut set = Vec::new(heap);
-    for part in &cut(heap, text)? {
+    for part in text.split(',') {
         P::read(part).ok_or(Unread::WrongPart)?.put_into(&mut set)?;
     }
     Ok(set)
