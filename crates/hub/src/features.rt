@@ -1,4 +1,4 @@
-ghost use Rattle.std.specs.Prelude.{Some};
+ghost use Rattle.std.specs.Prelude.{◌≡◌, Some};
 ghost use Rattle.hub.specs.Names.{feature_text};
 
 use crate::fields::write_params;
@@ -30,7 +30,11 @@ impl<'a, S: Source> fmt::Display for FeatureName<'a, S> {
 }
 
 impl<'a, S: Source> Shown<'a, S> {
-    pub(crate) fn feature_name(&self, index: u16) -> FeatureName<'a, S> {
+    // The feature at an index of the table that is shown.
+    pub(crate) fn feature_name(&self, index: u16) -> FeatureName<'a, S>
+        ensures source { result.source.now ≡ self.now.source.now }
+        ensures index { result.index ≡ index }
+    {
         FeatureName {
             source: self.source,
             index,
