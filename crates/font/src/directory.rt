@@ -1,4 +1,5 @@
 ghost use Rattle.std.specs.Prelude.{◌≡◌, ◌+◌, ◌*◌, ◌≤◌, length, IfSome};
+ghost use Rattle.font.specs.Numbers.{long_at};
 ghost use Rattle.font.specs.Directory.{opening_of, offset_like, may_be_layout, records_of, first_from};
 
 use crate::reads::{u16_at, u32_at};
@@ -50,6 +51,15 @@ pub(crate) fn records(file: &[u8]) -> Option<usize>
     (12 + 16 * number <= file.len()).then_some(number)
 }
 
+// The tag of a record that lies in the file. Read by `u32_at`, which tests for each record that it is there, a long
+// directory took half as long again.
+fn tag_at(file: &[u8], at: usize) -> u32
+    requires { at + 4 ≤ length file.now }
+    ensures { result ≡ long_at file.now at }
+{
+    u32::from_be_bytes([file[at], file[at + 1], file[at + 2], file[at + 3]])
+}
+
 // The place of the first record with a tag, among the records of a directory.
 pub(crate) fn find_record(file: &[u8], number: usize, tag: u32) -> Option<usize>
     requires { 12 + 16 * number ≤ length file.now }
@@ -59,7 +69,7 @@ pub(crate) fn find_record(file: &[u8], number: usize, tag: u32) -> Option<usize>
     // By number, since what is answered is the record's place in the file.
     for i in 0..number {
         let at = 12 + 16 * i;
-        if u32_at(file, at) == Some(tag) {
+        if tag_at(file, at) == tag {
             return Some(at);
         }
     }

@@ -14,9 +14,10 @@ use Rattle.std.proofs.lemmas.Bool.{both_ways, eqb-true, eq-eqb, or_cases, or_lef
 use Rattle.keys.specs.Slots.{Held}
 use Rattle.source.specs.declared.parts.Standing.{Standing}
 use Rattle.source.specs.declared.parts.Standing.TheVariants.{Absent, Unreadable, There}
+use Rattle.source.specs.declared.parts.Substitution.{Substitution}
 use Rattle.source.specs.Standings.{mapped, counted}
-use Rattle.source.specs.Reading.{FeatureTable, SubstitutionRecord}
-use Rattle.source.specs.Questions.{lookups_of, index_of, no_substitution}
+use Rattle.source.specs.Reading.{FeatureTable, SubstitutionRecord, SubstitutionTable}
+use Rattle.source.specs.Questions.{lookups_of, index_of, no_substitution, substitution_records, substitution_head}
 use Rattle.numbering.specs.Stages.{is_unreadable, names_alternate}
 use Rattle.numbering.specs.Sets.{among, any, passes}
 
@@ -80,6 +81,12 @@ pub unreadable-mapped : {X Y : Type 0} (f : X → Y) (s : Standing X) → is_unr
 unreadable-mapped f Absent = refl
 unreadable-mapped f Unreadable = refl
 unreadable-mapped f (There x) = refl
+
+-- what a source tells of a substitution table that is there
+pub substitution-there : (s : Standing SubstitutionTable) (h : Substitution) → There h ≡ mapped substitution_head s → (is_unreadable s ≡ false) × (h.count ≡ length (substitution_records s))
+substitution-there Absent h e = absurd (let z : ◌≡◌ {A = ℕ} 0 1 = cc in omega arith)
+substitution-there Unreadable h e = absurd (let z : ◌≡◌ {A = ℕ} 0 1 = cc in omega arith)
+substitution-there (There t) h e = (refl, ap (λ x. x.count) (there-same e))
 
 pub unread-or : (a b : Bool) → a ≡ false → b ≡ (a || b)
 unread-or a b e = sym (ap (λ t. t || b) e)

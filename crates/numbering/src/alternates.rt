@@ -5,7 +5,7 @@ ghost use Rattle.numbering.specs.Sets.{any};
 ghost use Rattle.numbering.specs.Stages.{is_unreadable, unread_substitution, names_alternate, alternates_unread, alternate_kept};
 
 use crate::subset::Subset;
-use source::{FeaturePlace, Source};
+use source::{FeaturePlace, Source, Standing};
 
 // How many variations there are.
 fn variation_count<S: Source>(source: &S) -> u32
@@ -37,8 +37,12 @@ fn unread_alternate<S: Source>(source: &S, at: u32, k: u16) -> bool
 fn unread_substitution<S: Source>(source: &S, at: u32) -> bool
     ensures { result ≡ unread_substitution (variation_record (S.reading source.now) at) }
 {
-    source.substitution(at).is_unreadable()
-        || (0..substitution_count(source, at)).any(|k| unread_alternate(source, at, k))
+    // Asked for once: this is done for every variation of a table, whatever is kept.
+    match source.substitution(at) {
+        Standing::Absent => false,
+        Standing::Unreadable => true,
+        Standing::There(found) => (0..found.count).any(|k| unread_alternate(source, at, k)),
+    }
 }
 
 // Whether a substitution table or an alternate cannot be read, so that no alternate counts.

@@ -23,6 +23,7 @@ impl<'a, P: Part> Counted<'a, P> {
     ghost use Rattle.table.specs.Spots.{placed, spots, spot, place_spot, entry_spot};
 
     // The table that an offset leads to from the one that holds it, which begins at `base`, if it lies within the bytes.
+    #[inline(always)]
     pub(crate) fn led_to(bytes: &'a [u8], base: usize, offset: u32) -> Standing<Counted<'a, P>>
         requires { base ≤ length bytes.now }
         ensures { spots result ≡ placed bytes.now (led bytes.now P.LAYOUT base offset) }
@@ -32,6 +33,9 @@ impl<'a, P: Part> Counted<'a, P> {
         }
         let at = base + offset as usize;
         let entries = at + P::LAYOUT.head as usize + 2;
+        if entries > bytes.len() {
+            return Standing::Unreadable;
+        }
         let count = u16_at(bytes, at + P::LAYOUT.head as usize) as usize;
         if entries + P::LAYOUT.width as usize * count > bytes.len() {
             return Standing::Unreadable;
@@ -44,6 +48,7 @@ impl<'a, P: Part> Counted<'a, P> {
     }
 
     // The table that an offset leads to from this one, which holds it.
+    #[inline(always)]
     pub(crate) fn follow<Q: Part>(&self, offset: u32) -> Standing<Counted<'a, Q>>
         ensures { spots result ≡ placed self.now.bytes.now (led self.now.bytes.now Q.LAYOUT self.now.at offset) }
     {
@@ -51,6 +56,7 @@ impl<'a, P: Part> Counted<'a, P> {
     }
 
     // The place so many bytes after the table's start.
+    #[inline(always)]
     pub(crate) fn place(&self, offset: u32) -> Place<'a>
         ensures { place_spot result ≡ spot self.now.bytes.now (self.now.at + offset) }
     {
@@ -61,6 +67,7 @@ impl<'a, P: Part> Counted<'a, P> {
     }
 
     // The 16-bit field that stands so many bytes after the table's start.
+    #[inline(always)]
     pub(crate) fn field(&self, after: u8) -> u16
         ensures { result ≡ u16_at self.now.bytes.now (self.now.at + after) }
     {
@@ -68,6 +75,7 @@ impl<'a, P: Part> Counted<'a, P> {
     }
 
     // How many entries the table has.
+    #[inline(always)]
     pub(crate) fn len(&self) -> u16
         ensures { result ≡ u16_at self.now.bytes.now (self.now.at + P.LAYOUT.head) }
     {
@@ -75,6 +83,7 @@ impl<'a, P: Part> Counted<'a, P> {
     }
 
     // The place of an entry.
+    #[inline(always)]
     pub(crate) fn entry(&self, i: u16) -> Option<Place<'a>>
         ensures value { entry_spot result ≡ at_entry self.now.bytes.now P.LAYOUT self.now.at i None (λ e. Some (spot self.now.bytes.now e)) }
         ensures inside { IfSome result (λ e. e.at + P.LAYOUT.width ≤ length e.bytes.now) }

@@ -13,18 +13,21 @@ use crate::variations::VariationList;
 use source::{FeaturePlace, LangSysPlace, Standing};
 
 // The list that the offset at a place of the header leads to.
+#[inline(always)]
 fn list(bytes: &[u8], place: u8) -> Standing<Counted<'_, List>>
     ensures { spots result ≡ placed bytes.now (led bytes.now list_layout 0 (u16_at bytes.now place)) }
 {
     Counted::led_to(bytes, 0, u32::from(u16_at(bytes, place as usize)))
 }
 
+#[inline(always)]
 pub(crate) fn script_list(bytes: &[u8]) -> Standing<Counted<'_, List>>
     ensures { spots result ≡ placed bytes.now (script_list_place bytes.now) }
 {
     list(bytes, 4)
 }
 
+#[inline(always)]
 pub(crate) fn feature_list(bytes: &[u8]) -> Standing<Counted<'_, List>>
     ensures { spots result ≡ placed bytes.now (feature_list_place bytes.now) }
 {
@@ -32,6 +35,7 @@ pub(crate) fn feature_list(bytes: &[u8]) -> Standing<Counted<'_, List>>
 }
 
 #[tactic(auto, using(crate::proofs::Spots::record_found))]
+#[inline(always)]
 pub(crate) fn script(bytes: &[u8], at: u16) -> Standing<Counted<'_, Script>>
     ensures { spots result ≡ placed bytes.now (script_place bytes.now at) }
 {
@@ -39,6 +43,7 @@ pub(crate) fn script(bytes: &[u8], at: u16) -> Standing<Counted<'_, Script>>
 }
 
 // The default language system of a script.
+#[inline(always)]
 fn default_lang_sys(script: Standing<Counted<'_, Script>>) -> Standing<Counted<'_, System>>
     ensures { spots result ≡ found (spots script.entry) Absent (λ b p. placed b (led b lang_sys_layout p (u16_at b p))) }
 {
@@ -49,6 +54,7 @@ fn default_lang_sys(script: Standing<Counted<'_, Script>>) -> Standing<Counted<'
 }
 
 #[tactic(auto, using(crate::proofs::Spots::record_found, crate::proofs::Spots::default_found))]
+#[inline(always)]
 pub(crate) fn lang_sys(bytes: &[u8], at: LangSysPlace) -> Standing<Counted<'_, System>>
     ensures { spots result ≡ placed bytes.now (lang_sys_place bytes.now at) }
 {
@@ -61,6 +67,7 @@ pub(crate) fn lang_sys(bytes: &[u8], at: LangSysPlace) -> Standing<Counted<'_, S
     }
 }
 
+#[inline(always)]
 pub(crate) fn variations(bytes: &[u8]) -> Standing<VariationList<'_>>
     ensures { variations_spots result ≡ placed bytes.now (variations_place bytes.now) }
 {
@@ -72,6 +79,7 @@ pub(crate) fn variations(bytes: &[u8]) -> Standing<VariationList<'_>>
 
 // Where the offset of a variation record leads, of which the first four bytes are the condition set's offset and the
 // next four, `from` 4, that of the substitution table.
+#[inline(always)]
 fn variation_led_to<P: Part>(
     list: Standing<VariationList<'_>>,
     at: u32,
@@ -89,6 +97,7 @@ fn variation_led_to<P: Part>(
 }
 
 #[tactic(auto, using(crate::proofs::Spots::variation_found))]
+#[inline(always)]
 pub(crate) fn condition_set(bytes: &[u8], at: u32) -> Standing<Counted<'_, ConditionSet>>
     ensures { spots result ≡ placed bytes.now (condition_set_place bytes.now at) }
 {
@@ -96,6 +105,7 @@ pub(crate) fn condition_set(bytes: &[u8], at: u32) -> Standing<Counted<'_, Condi
 }
 
 #[tactic(auto, using(crate::proofs::Spots::variation_found))]
+#[inline(always)]
 pub(crate) fn substitution(bytes: &[u8], at: u32) -> Standing<Counted<'_, Substitutions>>
     ensures { spots result ≡ placed bytes.now (substitution_place bytes.now at) }
 {
@@ -104,6 +114,7 @@ pub(crate) fn substitution(bytes: &[u8], at: u32) -> Standing<Counted<'_, Substi
 
 // The alternate feature that a record of a substitution table names. It stands beside `record_led_to` since these
 // records have no tag and offsets of 32 bits: a parameter that says so at each call would be no shorter.
+#[inline(always)]
 fn alternate(list: Standing<Counted<'_, Substitutions>>, k: u16) -> Standing<Counted<'_, Feature>>
     ensures { spots result ≡ found (spots list.entry) Absent (λ b p. at_entry b substitution_layout p k Absent (λ e. placed b (led b feature_layout p (u32_at b (e + 2))))) }
 {
@@ -117,6 +128,7 @@ fn alternate(list: Standing<Counted<'_, Substitutions>>, k: u16) -> Standing<Cou
 }
 
 #[tactic(auto, using(crate::proofs::Spots::record_found, crate::proofs::Spots::alternate_found))]
+#[inline(always)]
 pub(crate) fn feature(bytes: &[u8], at: FeaturePlace) -> Standing<Counted<'_, Feature>>
     ensures { spots result ≡ placed bytes.now (feature_place bytes.now at) }
 {

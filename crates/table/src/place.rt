@@ -17,6 +17,7 @@ impl<'a> Place<'a> {
     ghost use Rattle.table.specs.Format.{u16_at, u32_at, bytes_at, whole};
 
     // The 16-bit number that stands so many bytes after the place.
+    #[inline(always)]
     pub(crate) fn short(self, after: u8) -> u16
         ensures { result ≡ u16_at self.entry.bytes.now (self.entry.at + after) }
     {
@@ -24,6 +25,7 @@ impl<'a> Place<'a> {
     }
 
     // The 32-bit number that stands so many bytes after the place.
+    #[inline(always)]
     pub(crate) fn long(self, after: u8) -> u32
         ensures { result ≡ u32_at self.entry.bytes.now (self.entry.at + after) }
     {
@@ -31,6 +33,7 @@ impl<'a> Place<'a> {
     }
 
     // So many bytes from the place, if they lie within the bytes.
+    #[inline(always)]
     pub(crate) fn lent(self, size: u32) -> Standing<&'a [u8]>
         ensures { mapped (λ s. s.now) result ≡ mapped (λ p. bytes_at self.entry.bytes.now p size) (whole self.entry.bytes.now size self.entry.at) }
     {

@@ -14,6 +14,7 @@ use source::Standing;
 
 // What a function makes of a part, standing as the part does. It is not a method of the standing, since a public one
 // would ask of its caller that the function may be called.
+#[inline(always)]
 pub(crate) fn mapped<T, U, F: FnOnce(T) -> U>(place: Standing<T>, f: F) -> Standing<U>
     requires { ForThere place (F.pre f) }
     ensures { Mapped place (F.post f) result }
@@ -26,6 +27,7 @@ pub(crate) fn mapped<T, U, F: FnOnce(T) -> U>(place: Standing<T>, f: F) -> Stand
 }
 
 // How a counted table stands, with the number of its entries.
+#[inline(always)]
 pub(crate) fn count_of<P: Part>(list: Standing<Counted<'_, P>>) -> Standing<u16>
     ensures { result ≡ mapped (λ s. u16_at s.bytes (s.at + P.LAYOUT.head)) (spots list.entry) }
 {
@@ -33,6 +35,7 @@ pub(crate) fn count_of<P: Part>(list: Standing<Counted<'_, P>>) -> Standing<u16>
 }
 
 // The 16-bit number at an entry of a counted table.
+#[inline(always)]
 pub(crate) fn number_of<P: Part>(list: Standing<Counted<'_, P>>, i: u16) -> Option<u16>
     ensures { result ≡ found (spots list.entry) None (λ b p. at_entry b P.LAYOUT p i None (λ e. Some (u16_at b e))) }
 {
@@ -41,6 +44,7 @@ pub(crate) fn number_of<P: Part>(list: Standing<Counted<'_, P>>, i: u16) -> Opti
 }
 
 // The tag of a record (tag, offset) of a counted table.
+#[inline(always)]
 pub(crate) fn tag_of<P: Part>(list: Standing<Counted<'_, P>>, i: u16) -> Tag
     ensures { result.code ≡ found (spots list.entry) 0 (λ b p. at_entry b P.LAYOUT p i 0 (u32_at b)) }
 {
@@ -54,6 +58,7 @@ pub(crate) fn tag_of<P: Part>(list: Standing<Counted<'_, P>>, i: u16) -> Tag
 }
 
 // Where the offset of a record (tag, offset) of a counted table leads: to another counted table.
+#[inline(always)]
 pub(crate) fn record_led_to<'a, P: Part, Q: Part>(
     list: Standing<Counted<'a, P>>,
     i: u16,

@@ -77,15 +77,9 @@ fn params_at(place: Place<'_>, tag: Tag) -> Standing<FeatureParams<'_>>
 
 // The parameters of a listed feature, which has that tag.
 #[tactic(auto, using(crate::proofs::Spots::first_field))]
-fn listed_params<'a>(
-    feature: Standing<Counted<'a, Feature>>,
-    tag: Tag,
-) -> Standing<FeatureParams<'a>>
-    ensures { mapped params_meaning result ≡ found (spots feature.entry) Absent (λ b p. listed_params b tag.code p) }
+fn listed_params<'a>(feature: &Counted<'a, Feature>, tag: Tag) -> Standing<FeatureParams<'a>>
+    ensures { mapped params_meaning result ≡ listed_params feature.now.bytes.now tag.code feature.now.at }
 {
-    let Some(feature) = feature.there() else {
-        return Standing::Absent;
-    };
     let offset = feature.field(0);
     if offset == 0 {
         return Standing::Absent;
@@ -94,12 +88,9 @@ fn listed_params<'a>(
 }
 
 // The parameters of an alternate feature, which cannot be read.
-fn alternate_params<'a>(feature: Standing<Counted<'a, Feature>>) -> Standing<FeatureParams<'a>>
-    ensures { mapped params_meaning result ≡ found (spots feature.entry) Absent alternate_params }
+fn alternate_params<'a>(feature: &Counted<'a, Feature>) -> Standing<FeatureParams<'a>>
+    ensures { mapped params_meaning result ≡ alternate_params feature.now.bytes.now feature.now.at }
 {
-    let Some(feature) = feature.there() else {
-        return Standing::Absent;
-    };
     if feature.field(0) == 0 {
         return Standing::Absent;
     }
@@ -111,12 +102,14 @@ fn alternate_params<'a>(feature: Standing<Counted<'a, Feature>>) -> Standing<Fea
 pub(crate) fn params_of(bytes: &[u8], at: FeaturePlace) -> Standing<FeatureParams<'_>>
     ensures { mapped params_meaning result ≡ params_of_place bytes.now at (feature_place bytes.now at) }
 {
-    let place = located::feature(bytes, at);
+    let Some(found) = located::feature(bytes, at).there() else {
+        return Standing::Absent;
+    };
     match at {
         FeaturePlace::Listed { feature } => {
-            listed_params(place, tag_of(located::feature_list(bytes), feature))
+            listed_params(&found, tag_of(located::feature_list(bytes), feature))
         }
-        FeaturePlace::Alternate { .. } => alternate_params(place),
+        FeaturePlace::Alternate { .. } => alternate_params(&found),
     }
 }
 

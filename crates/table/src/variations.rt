@@ -20,6 +20,7 @@ impl<'a> VariationList<'a> {
     ghost use Rattle.table.specs.Spots.{placed, variations_spots, spot, entry_spot};
 
     // The list at an offset from the table's start.
+    #[inline(always)]
     pub(crate) fn led_to(bytes: &'a [u8], offset: u32) -> Standing<VariationList<'a>>
         ensures { variations_spots result ≡ placed bytes.now (variations_led bytes.now offset) }
     {
@@ -35,6 +36,7 @@ impl<'a> VariationList<'a> {
     }
 
     // How many records the list has.
+    #[inline(always)]
     pub(crate) fn len(&self) -> u32
         ensures { result ≡ u32_at self.now.bytes.now (self.now.at + 4) }
     {
@@ -42,6 +44,7 @@ impl<'a> VariationList<'a> {
     }
 
     // The place of a record.
+    #[inline(always)]
     pub(crate) fn record(&self, i: u32) -> Option<Place<'a>>
         ensures { entry_spot result ≡ cond (nat_lt i (u32_at self.now.bytes.now (self.now.at + 4))) (Some (spot self.now.bytes.now (self.now.at + 8 + 8 * i))) None }
     {
