@@ -5,7 +5,7 @@ use Rattle.std.specs.List.{between}
 use Rattle.std.proofs.lemmas.List.{same_lists, places}
 use Rattle.std.proofs.lemmas.List.Edits.{length-paste, drop-paste}
 use Rattle.serialize.specs.declared.tables.Counts.{Counts}
-use Rattle.serialize.specs.declared.tables.Tables.{Tables}
+use Rattle.serialize.specs.declared.tables.Serializer.{Serializer}
 use Rattle.serialize.specs.Objects.{Object, Linked, Once}
 use Rattle.serialize.specs.Tables.{start_at, pool_to, open_at, stack_of, Chain, Base, Opened, Stacked, Sound, Kept}
 use Rattle.serialize.specs.Calls.{on_top, written, Assigns}
@@ -15,7 +15,7 @@ use Rattle.serialize.proofs.Keeps.{object-same, sink-same, chain-kept, base_kept
 pub between-written : (w : List ℕ) (a e p : ℕ) (b : List ℕ) → a ≤ e → e ≤ length w → p + length b ≤ e - a → between a e (paste w (a + p) b (length b)) ≡ paste (between a e w) p b (length b)
 between-written w a e p b le in-w within = same_lists _ _ (search (rules, places)) (λ k d h. grind (arith, places))
 
-module _ (p : ℕ) (b w w' : List ℕ) (s : Tables) (c : Counts) (sound : Sound w s c) where
+module _ (p : ℕ) (b w w' : List ℕ) (s : Serializer) (c : Counts) (sound : Sound w s c) where
   module _ (f : Counts) (o : Opened w s f c) (within : p + length b ≤ c.head - f.head) (is : w' ≡ paste w (f.head + p) b (length b)) where
     in-w : f.head + p + length b ≤ length w
     in-w = omega (arith, o.heads, sound.base.heads, sound.base.tails)

@@ -1,7 +1,7 @@
 -- An object of bytes alone: opened, filled and packed, or taken back.
 use Rattle.std.proofs.Common.{◌≡◌, ℕ, ◌+◌, ◌-◌, ◌<◌, List, [], ◌∷◌, length, drop, sym, refl, ap, ◌∙◌, subst, inl, inr, ⊎_elim, arith}
 use Rattle.serialize.specs.declared.tables.Counts.{Counts}
-use Rattle.serialize.specs.declared.tables.Tables.{Tables}
+use Rattle.serialize.specs.declared.tables.Serializer.{Serializer}
 use Rattle.serialize.specs.declared.tokens.Token.{Token}
 use Rattle.serialize.specs.declared.faults.Fault.{Fault}
 use Rattle.serialize.specs.declared.faults.Fault.TheVariants.{Work}
@@ -10,7 +10,7 @@ use Rattle.serialize.specs.Tables.{Sink, start_at, sink_of, Sound, Kept}
 use Rattle.serialize.specs.Calls.{Before, SameOpen, top, embedded, opened, Pushes, Embeds, Packs, Full, Discards, TakenBack, Copies, Shared, Uncopied}
 use Rattle.serialize.proofs.Marking.{kept_trans, kept-earlier, sound-kept}
 
-module _ (w : List ℕ) (s s₁ : Tables) (c c₁ : Counts) (t : Token) (sound : Sound w s c) (p : Pushes w s s₁ c c₁ t) where
+module _ (w : List ℕ) (s s₁ : Serializer) (c c₁ : Counts) (t : Token) (sound : Sound w s c) (p : Pushes w s s₁ c c₁ t) where
   -- the counts at the opening
   pub start_is : (d : ℕ) → d ≡ c.depth + 1 → start_at s₁ (d - 1) ≡ c
   start_is d e = let z : d - 1 ≡ c.depth = omega arith in ap (start_at s₁) z ∙ p.start
@@ -54,14 +54,14 @@ module _ (w : List ℕ) (s s₁ : Tables) (c c₁ : Counts) (t : Token) (sound :
     absent : Absent (top (sink_of w₁ s₁ c₂)) (sink_of w₁ s₁ c₂).pool → Absent (record { bytes = b; links = [] }) (sink_of w s c).pool
     absent n = subst (λ (y : List Object). Absent (record { bytes = b; links = [] }) y) pool-full (subst (λ (y : Object). Absent y (sink_of w₁ s₁ c₂).pool) top-full n)
 
-    pub copy-full : (w₂ : List ℕ) (s₂ : Tables) (c' : Counts) (f : Fault) → Full w₁ w₂ s₁ s₂ c₂ c' f → TakenBack w w₂ s s₂ c c' × Uncopied b w s c f
+    pub copy-full : (w₂ : List ℕ) (s₂ : Serializer) (c' : Counts) (f : Fault) → Full w₁ w₂ s₁ s₂ c₂ c' f → TakenBack w w₂ s s₂ c c' × Uncopied b w s c f
     copy-full w₂ s₂ c' f h =
         let is : c' ≡ c = h.gone.counts ∙ start_is c₂.depth depth₂ in
         let k = sound-kept c c₂ w w₁ s s₁ sound e.sound first in
         let back : TakenBack w w₁ s s₁ c c = record { counts = refl; sound = k.0; sink = k.1; kept = first } in
-        (subst (λ (x : Counts). TakenBack w w₂ s s₂ c x) (sym is) (subst (λ (y : List ℕ). TakenBack w y s s₂ c c) (sym h.work) (subst (λ (z : Tables). TakenBack w w₁ s z c c) (sym h.tables) back)), inr (h.fault, inr (sym (ap length pool-full) ∙ h.full, absent h.new)))
+        (subst (λ (x : Counts). TakenBack w w₂ s s₂ c x) (sym is) (subst (λ (y : List ℕ). TakenBack w y s s₂ c c) (sym h.work) (subst (λ (z : Serializer). TakenBack w w₁ s z c c) (sym h.tables) back)), inr (h.fault, inr (sym (ap length pool-full) ∙ h.full, absent h.new)))
 
-    pub copy-packed : (w₂ : List ℕ) (s₂ : Tables) (c' : Counts) (k : ℕ) → Packs w₁ w₂ s₁ s₂ c₂ c' k → Copies b w w₂ s s₂ c c' k × Shared (record { bytes = b; links = [] }) (sink_of w s c).pool (sink_of w₂ s₂ c').pool k
+    pub copy-packed : (w₂ : List ℕ) (s₂ : Serializer) (c' : Counts) (k : ℕ) → Packs w₁ w₂ s₁ s₂ c₂ c' k → Copies b w w₂ s s₂ c c' k × Shared (record { bytes = b; links = [] }) (sink_of w s c).pool (sink_of w₂ s₂ c').pool k
     copy-packed w₂ s₂ c' k h =
         let x : Object = record { bytes = b; links = [] } in
         let tx = top-full in

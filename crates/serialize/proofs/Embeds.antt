@@ -6,7 +6,7 @@ use Rattle.std.proofs.lemmas.List.{length-take-le, take-append-le, take_all, dro
 use Rattle.std.proofs.lemmas.List.Edits.{length-paste, take-paste, drop-paste}
 use Rattle.std.proofs.lemmas.Slice.{between_is}
 use Rattle.serialize.specs.declared.tables.Counts.{Counts}
-use Rattle.serialize.specs.declared.tables.Tables.{Tables}
+use Rattle.serialize.specs.declared.tables.Serializer.{Serializer}
 use Rattle.serialize.specs.Objects.{Object}
 use Rattle.serialize.specs.Tables.{start_at, open_at, stack_of, Base, Opened, Stacked, Sound, Kept}
 use Rattle.serialize.specs.Calls.{on_top, grown, Embeds}
@@ -31,7 +31,7 @@ module _ (d : List ℕ) (at : ℕ) (b : List ℕ) (in-d : at + length b ≤ leng
 abbrev pub longer : Counts → ℕ → Counts
 longer c n = record { head = c.head + n; tail = c.tail; lhead = c.lhead; ltail = c.ltail; objects = c.objects; depth = c.depth }
 
-module _ (b w w' : List ℕ) (s : Tables) (c : Counts) (is : w' ≡ paste w c.head b (length b)) (sound : Sound w s c) (room : length b ≤ c.tail - c.head) where
+module _ (b w w' : List ℕ) (s : Serializer) (c : Counts) (is : w' ≡ paste w c.head b (length b)) (sound : Sound w s c) (room : length b ≤ c.tail - c.head) where
   in-w : c.head + length b ≤ length w
   in-w = omega (arith, sound.base.heads, sound.base.tails)
 

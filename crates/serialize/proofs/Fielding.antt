@@ -2,13 +2,14 @@
 use Rattle.std.proofs.Common.{◌≡◌, ℕ, zero, suc, ◌+◌, ◌-◌, ◌<◌, ◌≤◌, Bool, true, false, List, [], ◌∷◌, ◌++◌, length, get_or, take, drop, set, Decides, sym, refl, ap, ◌∙◌, subst, arith}
 use Rattle.std.specs.List.{between}
 use Rattle.std.proofs.lemmas.List.{length-set, length-take-le, take-set-le, drop-set-lt, take_more_set, drop-append-le}
+use Rattle.std.proofs.lemmas.List.Edits.{between_more}
 use Rattle.std.proofs.lemmas.Slice.{between_is}
 use Rattle.serialize.specs.declared.tables.Counts.{Counts}
 use Rattle.serialize.specs.declared.tables.Link.{Link}
 use Rattle.serialize.specs.declared.tables.Width.{Width}
 use Rattle.serialize.specs.declared.tables.Width.TheVariants.{Two, Four}
 use Rattle.std.proofs.lemmas.Bool.{false≢true}
-use Rattle.serialize.specs.declared.tables.Tables.{Tables}
+use Rattle.serialize.specs.declared.tables.Serializer.{Serializer}
 use Rattle.serialize.specs.Objects.{Object, width_of, last_end, Fields}
 use Rattle.serialize.specs.Tables.{start_at, open_at, stack_of, Base, Opened, Stacked, Sound, Kept}
 use Rattle.serialize.specs.Calls.{on_top, joined, Takes, Links}
@@ -30,14 +31,15 @@ pub fields-last : (lo : ℕ) (ls : List Link) (l : Link) (m n : ℕ) → Fields 
 fields-last lo [] l m n (a, b, d) = (a, b, d)
 fields-last lo (k ∷ ls) l m n (x, y, f) = fields-last (past k) ls l m n f
 
--- the end of the last link
-last-of : (lo : ℕ) (l : Link) (ls : List Link) (d : Link) → past (get_or (l ∷ ls) (length ls) d) ≡ last_end lo (l ∷ ls)
-last-of lo l [] d = refl
-last-of lo l (k ∷ ls) d = last-of (past l) k ls d
+-- the end of the last link in a part of the table
+pub last_none : (ls : List Link) (a b : ℕ) → b ≤ a → 0 ≡ last_end 0 (between a b ls)
+last_none ls a b le = let z : b - a ≡ 0 = omega arith in sym (ap (λ n. last_end 0 (take n (drop a ls))) z)
 
-pub last_link : (ls : List Link) (d : Link) → 0 < length ls → past (get_or ls (length ls - 1) d) ≡ last_end 0 ls
-last_link [] d some = absurd (omega arith)
-last_link (l ∷ ls) d some = ap (λ j. past (get_or (l ∷ ls) j d)) (omega arith) ∙ last-of 0 l ls d
+pub last_some : (ls : List Link) (a b : ℕ) (d : Link) → a < b → b ≤ length ls → past (get_or ls (b - 1) d) ≡ last_end 0 (between a b ls)
+last_some ls a b d lt le =
+    let z : b - 1 + 1 ≡ b = omega arith in
+    let e : between a b ls ≡ between a (b - 1) ls ++ get_or ls (b - 1) d ∷ [] = ap (λ n. between a n ls) (sym z) ∙ between_more ls a (b - 1) d (omega arith) (omega arith) in
+    sym (ap (last_end 0) e ∙ last-push 0 (between a (b - 1) ls) (get_or ls (b - 1) d))
 
 -- a link written after those of a part
 pub between-push : (ls : List Link) (a b : ℕ) (l : Link) → a ≤ b → b < length ls → between a (b + 1) (set ls b l) ≡ between a b ls ++ l ∷ []
@@ -45,14 +47,14 @@ between-push ls a b l le lt =
     let e : length (take b ls) ≡ b = length-take-le b ls (omega arith) in
     between_is (set ls b l) a (b + 1) ∙ ap (drop a) (take_more_set ls b l lt) ∙ drop-append-le a (take b ls) (l ∷ []) (omega arith) ∙ ap (λ (y : List Link). y ++ l ∷ []) (sym (between_is ls a b))
 
-abbrev pub linked-tables : Tables → Counts → Link → Tables
+abbrev pub linked-tables : Serializer → Counts → Link → Serializer
 linked-tables s c l = record { frames = s.frames; packed = s.packed; links = set s.links c.lhead l }
 
 abbrev pub linked-counts : Counts → Counts
 linked-counts c = record { head = c.head; tail = c.tail; lhead = c.lhead + 1; ltail = c.ltail; objects = c.objects; depth = c.depth }
 
-module _ (w : List ℕ) (s : Tables) (c : Counts) (l : Link) (sound : Sound w s c) (room : c.lhead < c.ltail) where
-  abbrev s' : Tables
+module _ (w : List ℕ) (s : Serializer) (c : Counts) (l : Link) (sound : Sound w s c) (room : c.lhead < c.ltail) where
+  abbrev s' : Serializer
   s' = linked-tables s c l
 
   kept : Kept c w s w s'
@@ -119,7 +121,7 @@ width_some Two = omega arith
 width_some Four = omega arith
 
 -- whether the top object takes a link
-module _ (w : List ℕ) (s : Tables) (c : Counts) (l : Link) (sound : Sound w s c) where
+module _ (w : List ℕ) (s : Serializer) (c : Counts) (l : Link) (sound : Sound w s c) where
   abbrev f : Counts
   f = start_at s (c.depth - 1)
 

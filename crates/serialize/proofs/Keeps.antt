@@ -4,7 +4,7 @@ use Rattle.serialize.specs.declared.tables.Counts.{Counts}
 use Rattle.serialize.specs.declared.tables.Frame.{Frame}
 use Rattle.serialize.specs.declared.tables.Packed.{Packed}
 use Rattle.serialize.specs.declared.tables.Link.{Link}
-use Rattle.serialize.specs.declared.tables.Tables.{Tables}
+use Rattle.serialize.specs.declared.tables.Serializer.{Serializer}
 use Rattle.serialize.specs.Objects.{Object, width_of, Fields, Linked, Once}
 use Rattle.serialize.specs.Tables.{hash_of, no_counts, no_packed, entry_at, start_at, described, object_at, pool_to, open_at, stack_of, Sink, Chain, Base, Opened, Stacked, Kept}
 use Rattle.serialize.proofs.Parts.{drop-same, take_same, between-high, between-low, getD-same}
@@ -17,7 +17,7 @@ counts_same a b p q r t u v =
 pub object-same : (a a' : List ℕ) (b b' : List Link) → a ≡ a' → b ≡ b' → ◌≡◌ {A = Object} (record { bytes = a; links = b }) (record { bytes = a'; links = b' })
 object-same a a' b b' p q = ap (λ (x : List ℕ). let o : Object = record { bytes = x; links = b } in o) p ∙ ap (λ (y : List Link). let o : Object = record { bytes = a'; links = y } in o) q
 
-module _ (w w' : List ℕ) (s s' : Tables) (len : length w' ≡ length w) where
+module _ (w w' : List ℕ) (s s' : Serializer) (len : length w' ≡ length w) where
   pub described-kept : (h l : ℕ) (p : Packed) → h ≤ p.head → l ≤ p.first → drop h w' ≡ drop h w → drop l s'.links ≡ drop l s.links → described w' s'.links p ≡ described w s.links p
   described-kept h l p a b e f =
       object-same _ _ _ _ (between-high w w' h p.head p.tail a e) (between-high s.links s'.links l p.first p.last b f)

@@ -1,19 +1,14 @@
 -- Objects laid one by one.
 use Rattle.std.proofs.Common.{◌≡◌, ℕ, zero, suc, ◌+◌, ◌-◌, ◌/◌, ◌%◌, ◌<◌, ◌≤◌, List, [], ◌∷◌, ◌++◌, length, get_or, take, drop, sym, refl, ap, ◌∙◌, subst, ⊎_elim, arith}
 use borrow.Rule.Slice.PartMut.{put_mid}
-use Rattle.std.proofs.lemmas.List.{append_assoc, length-take-le, take-append-le, take-take, take-append-drop, drop_at, drop-drop, at_drop_more, at_drop_all}
+use Rattle.std.proofs.lemmas.List.{append_assoc, length-take-le, take-append-le, take-take, take-append-drop, drop_at, drop-drop, at_drop_more, at_drop_all, drop_more, drop_all}
 use Rattle.std.proofs.lemmas.List.Edits.{length-between}
 use Rattle.std.proofs.lemmas.Bool.{cases_order}
-use Rattle.std.proofs.Common.{Bool, true, false, Decides, zero-add}
-use Rattle.std.specs.Bool.{MatchBool}
-use Rattle.std.specs.List.{AllWithin, HoldsAt, range_with_len}
-use Rattle.std.proofs.lemmas.Bool.{false≢true}
-use Rattle.std.proofs.lemmas.List.FromFn.{length-range_with_len, get_or-range_with_len}
 use Rattle.serialize.specs.declared.tables.Width.{Width}
 use Rattle.serialize.specs.declared.tables.Width.TheVariants.{Two, Four}
 use Rattle.serialize.specs.declared.tables.Counts.{Counts}
 use Rattle.serialize.specs.declared.tables.Link.{Link}
-use Rattle.serialize.specs.declared.tables.Tables.{Tables}
+use Rattle.serialize.specs.declared.tables.Serializer.{Serializer}
 use Rattle.serialize.specs.Objects.{Object, width_of, size, from, number, Fields, Linked}
 use Rattle.serialize.specs.Tables.{end, entry_at, object_at, pool_to, Chain, Entry, Lies, Sound}
 use Rattle.serialize.specs.Laying.{field, put, place, distance, patched, laid, Within, Short, AllShort}
@@ -31,7 +26,7 @@ pub width_small : (v : Width) → (0 < width_of v) × (width_of v ≤ 4)
 width_small Two = (omega arith, omega arith)
 width_small Four = (omega arith, omega arith)
 
-module _ (w : List ℕ) (s : Tables) where
+module _ (w : List ℕ) (s : Serializer) where
   -- an entry's place tells how much is older
   pub heads : (n h l k : ℕ) → Chain w s n h l → h + size (pool_to w s n) ≡ end w
   heads zero h l k (a, b) = omega arith
@@ -97,21 +92,18 @@ module _ (part : List ℕ) (ls : List Link) (q : List Object) (j : ℕ) where
   pub patched-all : length ls ≤ j → patched part (drop j ls) q ≡ part
   patched-all le = at_drop_all (λ k. patched part k q) ls j le
 
--- what a look at each link gives
-each-within : (q : List Object) (ls : List Link) → ((k : ℕ) (d : Link) → k < length ls → Within (get_or ls k d).width (distance q (get_or ls k d))) → Short q ls
-each-within q [] f = tt
-each-within q (l ∷ ls) f = (f 0 l (omega arith), each-within q ls (λ k d lt. f (suc k) d (omega arith)))
+-- the links from j on, the first of them apart
+module _ (q : List Object) (ls : List Link) (j : ℕ) (d : Link) (lt : j < length ls) where
+  pub short-from : Within (get_or ls j d).width (distance q (get_or ls j d)) → Short q (drop (j + 1) ls) → Short q (drop j ls)
+  short-from a b = subst (Short q) (sym (drop_more ls j d lt)) (a, b)
 
-within_at : (q : List Object) (ls : List Link) → Short q ls → (k : ℕ) (d : Link) → k < length ls → Within (get_or ls k d).width (distance q (get_or ls k d))
-within_at q [] h k d lt = absurd (omega arith)
-within_at q (l ∷ ls) (a, h) zero d lt = a
-within_at q (l ∷ ls) (a, h) (suc k) d lt = within_at q ls h k d (omega arith)
+  pub short-parts : Short q (drop j ls) → Within (get_or ls j d).width (distance q (get_or ls j d)) × Short q (drop (j + 1) ls)
+  short-parts h = subst (Short q) (drop_more ls j d lt) h
 
-pub short_from : (q : List Object) (ls : List Link) (d : Link) (r : Bool) → MatchBool r (AllWithin (λ l. Within l.width (distance q l)) ls 0 (length ls)) ((k : ℕ) × (k < length ls) × HoldsAt (λ l. Within l.width (distance q l) → ⊥) ls k) → Decides r (Short q ls)
-short_from q ls d true h = (λ _. each-within q ls (λ k e lt. h k e (omega arith) lt), λ _. refl)
-short_from q ls d false (k, lt, miss) = (λ e. absurd (false≢true e), λ a. absurd (miss d (within_at q ls a k d lt)))
+pub short-end : (q : List Object) (ls : List Link) (j : ℕ) → length ls ≤ j → Short q (drop j ls)
+short-end q ls j le = subst (Short q) (sym (drop_all j ls le)) tt
 
-module _ (w : List ℕ) (s : Tables) where
+module _ (w : List ℕ) (s : Serializer) where
   pub all-short_at : (n i : ℕ) → AllShort (pool_to w s n) → i < n → Short (pool_to w s (suc i)) (object_at w s i).links
   all-short_at zero i h lt = absurd (omega arith)
   all-short_at (suc n) i (a, h) lt =
@@ -119,6 +111,9 @@ module _ (w : List ℕ) (s : Tables) where
       (λ (p : i ≡ n). subst (λ j. Short (pool_to w s (suc j)) (object_at w s j).links) (sym p) a)
       (⊎_elim (λ (q : i < n). all-short_at n i h q) (λ (g : n < i). absurd (omega arith)))
       (cases_order i n)
+
+  pub all-short-more : (i : ℕ) → Short (pool_to w s (suc i)) (object_at w s i).links → AllShort (pool_to w s i) → AllShort (pool_to w s (i + 1))
+  all-short-more i a h = let e : suc i ≡ i + 1 = omega arith in subst (λ j. AllShort (pool_to w s j)) e (a, h)
 
   -- what is laid once the first i objects are
   abbrev pub so_far : List ℕ → ℕ → ℕ → List ℕ
@@ -152,7 +147,7 @@ put-before out₀ out ys zs rest a b ab in-out is =
     let high : drop (b - a) (drop a out) ≡ zs ++ rest = drop-drop (b - a) a out ∙ ap (λ k. drop k out) z ∙ ap (drop b) is ∙ drop_at (take b out₀) (zs ++ rest) b e in
     ap (λ l. l ++ (ys ++ drop (b - a) (drop a out))) low ∙ ap (λ l. take a out₀ ++ (ys ++ l)) high ∙ ap (λ l. take a out₀ ++ l) (sym (append_assoc ys zs rest))
 
-module _ (w : List ℕ) (s : Tables) where
+module _ (w : List ℕ) (s : Serializer) where
   -- one object more is laid
   pub so_far_more : (n h l : ℕ) → Chain w s n h l → (out₀ out ys : List ℕ) (i : ℕ) → i < n → size (pool_to w s n) ≤ length out₀ → out ≡ so_far w s out₀ n i → ys ≡ patched (object_at w s i).bytes (object_at w s i).links (pool_to w s (suc i)) → put_mid ((entry_at s i).head - h) ((entry_at s i).tail - h - ((entry_at s i).head - h)) out ys ≡ so_far w s out₀ n (i + 1)
   so_far_more n h l chain out₀ out ys i lt room is laid-now =
@@ -180,18 +175,3 @@ module _ (w : List ℕ) (s : Tables) where
       let e = entry-places w s c.objects c.tail c.ltail sound.base.chain k lt in
       let o = number_of w s c.objects k lt in
       (e.2 ∙ ap (λ p. size (pool_to w s c.objects) - size p) (sym (from-pool w s c.objects k lt)), ap (λ (x : Object). x.bytes) (sym o), ap (λ (x : Object). x.links) (sym o))
-
--- a link of a packed object leads to an older one, and its field lies in the object's bytes
-pub link_at : (w : List ℕ) (s : Tables) (c : Counts) (i : ℕ) → Sound w s c → i < c.objects → (ls : List Link) → ls ≡ (object_at w s i).links → (j : ℕ) (d : Link) → j < length ls → ((get_or ls j d).target < i) × ((get_or ls j d).position + width_of (get_or ls j d).width ≤ length (object_at w s i).bytes)
-link_at w s c i sound lt ls is j d in-ls =
-    field_at 0 ls (length (object_at w s i).bytes) i j d (subst (λ k. Fields 0 k (length (object_at w s i).bytes) i) (sym is) (linked-at w s c.objects i sound.base.linked lt)) in-ls
-
--- what a look at each of the first n gives
-module _ (w : List ℕ) (s : Tables) where
-  each-short : (n : ℕ) → ((i : ℕ) → i < n → Short (pool_to w s (suc i)) (object_at w s i).links) → AllShort (pool_to w s n)
-  each-short zero f = tt
-  each-short (suc n) f = (f n (omega arith), each-short n (λ i lt. f i (omega arith)))
-
-  pub all-short_from : (n : ℕ) (r : Bool) → MatchBool r (AllWithin (λ i. Short (pool_to w s (suc i)) (object_at w s i).links) (range_with_len 0 n) 0 (length (range_with_len 0 n))) ((k : ℕ) × (k < length (range_with_len 0 n)) × HoldsAt (λ i. Short (pool_to w s (suc i)) (object_at w s i).links → ⊥) (range_with_len 0 n) k) → Decides r (AllShort (pool_to w s n))
-  all-short_from n true h = (λ _. each-short n (λ i lt. subst (λ j. Short (pool_to w s (suc j)) (object_at w s j).links) (get_or-range_with_len 0 n i 0 lt ∙ zero-add i) (h i 0 (omega arith) (omega (arith, length-range_with_len 0 n)))), λ _. refl)
-  all-short_from n false (k, lt, miss) = (λ e. absurd (false≢true e), λ a. let in-n : k < n = omega (arith, length-range_with_len 0 n) in absurd (subst (λ j. Short (pool_to w s (suc j)) (object_at w s j).links → ⊥) (get_or-range_with_len 0 n k 0 in-n ∙ zero-add k) (miss 0) (all-short_at w s n k a in-n)))

@@ -5,7 +5,7 @@ use Rattle.serialize.specs.declared.tables.Width.{Width}
 use Rattle.serialize.specs.declared.tables.Width.TheVariants.{Two, Four}
 use Rattle.serialize.specs.declared.tables.Link.{Link}
 use Rattle.serialize.specs.declared.tables.Counts.{Counts}
-use Rattle.serialize.specs.declared.tables.Tables.{Tables}
+use Rattle.serialize.specs.declared.tables.Serializer.{Serializer}
 use Rattle.std.specs.List.{between}
 use Rattle.std.proofs.lemmas.Bool.{cases_order}
 use Rattle.serialize.specs.Objects.{width_of, last_end, Fields}
@@ -18,10 +18,10 @@ use Rattle.serialize.proofs.Fielding.{linked-counts, fields-push, fields-last}
 use Rattle.serialize.proofs.Packings.{top_of}
 use Rattle.serialize.proofs.Keeps.{sink-same, fields-more, pool-kept, base_kept, stacked-kept}
 
-pub kept_refl : (c : Counts) (w : List ℕ) (s : Tables) → Kept c w s w s
+pub kept_refl : (c : Counts) (w : List ℕ) (s : Serializer) → Kept c w s w s
 kept_refl c w s = record { length_work = refl; head = refl; tail = refl; link_head = refl; link_tail = refl; entries = refl; frames = refl }
 
-pub kept_trans : (c : Counts) (w w' w'' : List ℕ) (s s' s'' : Tables) → Kept c w s w' s' → Kept c w' s' w'' s'' → Kept c w s w'' s''
+pub kept_trans : (c : Counts) (w w' w'' : List ℕ) (s s' s'' : Serializer) → Kept c w s w' s' → Kept c w' s' w'' s'' → Kept c w s w'' s''
 kept_trans c w w' w'' s s' s'' a b = record {
   length_work = b.length_work ∙ a.length_work;
   head = b.head ∙ a.head;
@@ -32,7 +32,7 @@ kept_trans c w w' w'' s s' s'' a b = record {
   frames = b.frames ∙ a.frames;
 }
 
-pub kept-earlier : (f c : Counts) (w w' : List ℕ) (s s' : Tables) → Before f c → Kept c w s w' s' → Kept f w s w' s'
+pub kept-earlier : (f c : Counts) (w w' : List ℕ) (s s' : Serializer) → Before f c → Kept c w s w' s' → Kept f w s w' s'
 kept-earlier f c w w' s s' o k = record {
   length_work = k.length_work;
   head = take_same w w' f.head c.head o.heads k.head;
@@ -44,7 +44,7 @@ kept-earlier f c w w' s s' o k = record {
 }
 
 -- counts put back are sound, and mean what they meant; later is any sound sink over the same tables
-pub sound-kept : (c later : Counts) (w w' : List ℕ) (s s' : Tables) → Sound w s c → Sound w' s' later → Kept c w s w' s' → Sound w' s' c × (sink_of w' s' c ≡ sink_of w s c)
+pub sound-kept : (c later : Counts) (w w' : List ℕ) (s s' : Serializer) → Sound w s c → Sound w' s' later → Kept c w s w' s' → Sound w' s' c × (sink_of w' s' c ≡ sink_of w s c)
 sound-kept c later w w' s s' a b k =
     let p = pool-kept w w' s s' k.length_work c a.base.chain k in
     let t = stacked-kept w w' s s' k.length_work c.depth c a.stacked k in
@@ -55,7 +55,7 @@ fields-end lo [] m n f = f
 fields-end lo (l ∷ ls) m n (a, b, f) = fields-end (l.position + width_of l.width) ls m n f
 
 -- a field just added takes the link, if there is the target
-no_target : (v : Width) (t : ℕ) (w : List ℕ) (s : Tables) (c c₁ : Counts) (p : ℕ) → Sound w s c → 0 < c.depth → c₁ ≡ longer c (width_of v) → p ≡ c.head - (start_at s (c.depth - 1)).head → (Takes s c₁ (record { position = p; target = t; width = v }) → ⊥) → c.objects ≤ t
+no_target : (v : Width) (t : ℕ) (w : List ℕ) (s : Serializer) (c c₁ : Counts) (p : ℕ) → Sound w s c → 0 < c.depth → c₁ ≡ longer c (width_of v) → p ≡ c.head - (start_at s (c.depth - 1)).head → (Takes s c₁ (record { position = p; target = t; width = v }) → ⊥) → c.objects ≤ t
 no_target v t w s c c₁ p sound some ce pe refused =
     let f = start_at s (c.depth - 1) in
     let o = (top_of w s c c.depth sound.stacked refl some).opened in
@@ -68,7 +68,7 @@ no_target v t w s c c₁ p sound some ce pe refused =
     ⊎_elim (λ (e : t ≡ c.objects). omega arith) (⊎_elim (λ (lt : t < c.objects). absurd (never (takes lt))) (λ (gt : c.objects < t). omega arith)) (cases_order t c.objects)
 
 -- an offset's field and link: both added, or the first taken back
-module _ (v : Width) (t : ℕ) (w w' : List ℕ) (s s' : Tables) (c : Counts) (sound : Sound w s c) (some : 0 < c.depth) (p : ℕ) (at : p ≡ c.head - (start_at s (c.depth - 1)).head) where
+module _ (v : Width) (t : ℕ) (w w' : List ℕ) (s s' : Serializer) (c : Counts) (sound : Sound w s c) (some : 0 < c.depth) (p : ℕ) (at : p ≡ c.head - (start_at s (c.depth - 1)).head) where
   field-counts : (c₁ : Counts) (b : List ℕ) → Embeds b w w' s c c₁ → b ≡ replicate (width_of v) 0 → (length b ≡ width_of v) × (c₁ ≡ longer c (width_of v))
   field-counts c₁ b e zeros =
       let lb : length b ≡ width_of v = ap length zeros ∙ length-replicate (width_of v) 0 in
@@ -80,8 +80,8 @@ module _ (v : Width) (t : ℕ) (w w' : List ℕ) (s s' : Tables) (c : Counts) (s
       let h : c₁.lhead ≡ c.lhead = ap (λ (d : Counts). d.lhead) q.1 in
       let l : c₁.ltail ≡ c.ltail = ap (λ (d : Counts). d.ltail) q.1 in
       let why : (c.lhead ≡ c.ltail) ⊎ (c.objects ≤ t) = ⊎_elim (λ full. inl (sym h ∙ full ∙ l)) (λ (none : Takes s c₁ (record { position = p; target = t; width = v }) → ⊥). inr (no_target v t w s c c₁ p sound some q.1 at none)) u.why in
-      let also : Sound w' s' c₁ = subst (λ (y : Tables). Sound w' y c₁) (sym u.tables) e.sound in
-      let k : Kept c w s w' s' = subst (λ (y : Tables). Kept c w s w' y) (sym u.tables) e.kept in
+      let also : Sound w' s' c₁ = subst (λ (y : Serializer). Sound w' y c₁) (sym u.tables) e.sound in
+      let k : Kept c w s w' s' = subst (λ (y : Serializer). Kept c w s w' y) (sym u.tables) e.kept in
       let z = sound-kept c c₁ w w' s s' sound also k in
       subst (λ (y : Result Unit Fault). OffsetAdded v t w w' s s' c c' y × OffsetAnswered v t c y) (sym is) (subst (λ (d : Counts). TakenBack w w' s s' c d) (sym back) (record { counts = refl; sound = z.0; sink = z.1; kept = k }), inr (u.fault, inr why))
 
@@ -106,20 +106,6 @@ module _ (v : Width) (t : ℕ) (w w' : List ℕ) (s s' : Tables) (c : Counts) (s
           target = omega (arith, (fields-last 0 _ (record { position = p; target = t; width = v }) _ _ l.takes.1).1);
         },
       )
-
--- the same along the steps: the field is added, then the link, and then a mark has put the counts back or left them
-module _ (v : Width) (t : ℕ) (w w₁ w₂ w₃ : List ℕ) (s s₁ s₂ s₃ : Tables) (c c₁ c₂ c₃ : Counts) (sound : Sound w s c) (some : 0 < c.depth) (p : ℕ) (at : p ≡ c.head - (start_at s (c.depth - 1)).head) (b : List ℕ) (zeros : b ≡ replicate (width_of v) 0) (e : (s₁ ≡ s) × Embeds b w w₁ s c c₁) (ws : w₃ ≡ w₂) (ss : s₃ ≡ s₂) where
-  pub refused-offset : (r : Result Unit Fault) (f : Fault) → r ≡ Err f → (w₂ ≡ w₁) × Unlinked (record { position = p; target = t; width = v }) s₁ s₂ c₁ c₂ f → c₃ ≡ c → OffsetAdded v t w w₃ s s₃ c c₃ r × OffsetAnswered v t c r
-  refused-offset r f is u back =
-      let u' = subst (λ (y : Tables). Unlinked (record { position = p; target = t; width = v }) y s₂ c₁ c₂ f) e.0 u.1 in
-      let h = offset-refused v t w w₁ s s₂ c sound some p at c₁ c₂ c₃ b r f is back e.1 zeros u' in
-      subst (λ (y : Tables). OffsetAdded v t w w₃ s y c c₃ r × OffsetAnswered v t c r) (sym ss) (subst (λ (y : List ℕ). OffsetAdded v t w y s s₂ c c₃ r × OffsetAnswered v t c r) (sym (ws ∙ u.0)) h)
-
-  pub added-offset : (w₂ ≡ w₁) × Links (record { position = p; target = t; width = v }) w₁ s₁ s₂ c₁ c₂ → c₃ ≡ c₂ → Offsets v t w w₃ s s₃ c c₃ × Fits v t c
-  added-offset u kept =
-      let u' = subst (λ (y : Tables). Links (record { position = p; target = t; width = v }) w₁ y s₂ c₁ c₂) e.0 u.1 in
-      let h = offset-added v t w w₁ s s₂ c sound some p at c₁ c₂ c₃ b e.1 zeros u' kept in
-      subst (λ (y : Tables). Offsets v t w w₃ s y c c₃ × Fits v t c) (sym ss) (subst (λ (y : List ℕ). Offsets v t w y s s₂ c c₃ × Fits v t c) (sym (ws ∙ u.0)) h)
 
 pub zeros-are : (v : Width) (n : ℕ) → n ≡ width_of v → take {A = ℕ} (n - 0) (0 ∷ 0 ∷ 0 ∷ 0 ∷ []) ≡ replicate (width_of v) 0
 zeros-are Two n e = ap (λ k. take {A = ℕ} (k - 0) (0 ∷ 0 ∷ 0 ∷ 0 ∷ [])) e

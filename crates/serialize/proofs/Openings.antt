@@ -6,7 +6,7 @@ use Rattle.std.proofs.lemmas.List.Edits.{between_none}
 use Rattle.std.proofs.lemmas.Bool.{cases_order}
 use Rattle.serialize.specs.declared.tables.Counts.{Counts}
 use Rattle.serialize.specs.declared.tables.Frame.{Frame}
-use Rattle.serialize.specs.declared.tables.Tables.{Tables}
+use Rattle.serialize.specs.declared.tables.Serializer.{Serializer}
 use Rattle.serialize.specs.declared.tokens.Token.{Token}
 use Rattle.serialize.specs.Objects.{Object, none, Fields}
 use Rattle.serialize.specs.Tables.{end, no_counts, start_at, pool_to, open_at, stack_of, Base, Opened, Stacked, Sound, Kept}
@@ -16,20 +16,20 @@ use Rattle.serialize.proofs.Keeps.{object-same, sink-same, pool-kept, base_kept,
 abbrev pub fresh : List ℕ → Counts
 fresh w = record { head = 0; tail = end w; lhead = 0; ltail = 4096; objects = 0; depth = 0 }
 
-pub fresh-sound : (w : List ℕ) (s : Tables) → length s.frames ≡ 8 → length s.packed ≡ 2048 → length s.links ≡ 4096 → Sound w s (fresh w)
+pub fresh-sound : (w : List ℕ) (s : Serializer) → length s.frames ≡ 8 → length s.packed ≡ 2048 → length s.links ≡ 4096 → Sound w s (fresh w)
 fresh-sound w s a b d =
     let base : Base w s (fresh w) = record { heads = omega arith; tails = omega arith; link_heads = omega arith; link_tails = omega arith; few = omega arith; chain = (refl, refl); linked = tt; once = tt } in
     record { shallow = omega arith; frames = a; entries = b; links = d; base = base; stacked = refl }
 
-abbrev pub framed : Tables → Counts → Tables
+abbrev pub framed : Serializer → Counts → Serializer
 framed s c = record { frames = set s.frames c.depth (record { start = c }); packed = s.packed; links = s.links }
 
 abbrev pub deeper : Counts → Counts
 deeper c = record { head = c.head; tail = c.tail; lhead = c.lhead; ltail = c.ltail; objects = c.objects; depth = c.depth + 1 }
 
-module _ (w : List ℕ) (s : Tables) (c : Counts) (sound : Sound w s c) where
+module _ (w : List ℕ) (s : Serializer) (c : Counts) (sound : Sound w s c) where
   module _ (room : c.depth < 8) where
-    s' : Tables
+    s' : Serializer
     s' = framed s c
 
     kept : Kept c w s w s'
@@ -108,11 +108,12 @@ module _ (w : List ℕ) (s : Tables) (c : Counts) (sound : Sound w s c) where
       let sd : Sound w s (start_at s d) = record { shallow = omega arith; frames = sound.frames; entries = sound.entries; links = sound.links; base = b; stacked = subst (λ k. Stacked w s k (start_at s d)) (sym p) r } in
       subst (λ k. Sound w s (start_at s k) × (stack_of w s k (start_at s k) ≡ drop 1 (stack_of w s (suc d) c)) × ((start_at s k).objects ≤ c.objects) × ((start_at s k).depth ≡ k)) z (sd, refl, o.more, p)
 
-  pub discards : (c' : Counts) → 0 < c.depth → c' ≡ start_at s (c.depth - 1) → Discards w s c c'
-  discards c' some is =
-      let p = below c.depth sound.stacked some sound.shallow in
+  pub discards : (c' : Counts) (level : ℕ) → 0 < level → level ≡ c.depth → c' ≡ start_at s (level - 1) → Discards w s c c'
+  discards c' level lt e is =
+      let i : c' ≡ start_at s (c.depth - 1) = is ∙ ap (λ k. start_at s (k - 1)) e in
+      let p = below c.depth sound.stacked (omega arith) sound.shallow in
       let f = start_at s (c.depth - 1) in
-      subst (λ (g : Counts). Discards w s c g) (sym is) (record {
+      subst (λ (g : Counts). Discards w s c g) (sym i) (record {
         counts = refl;
         sound = p.0;
         stack = ap (λ k. stack_of w s k f) p.3 ∙ p.1;

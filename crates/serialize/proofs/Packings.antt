@@ -7,7 +7,7 @@ use Rattle.std.proofs.lemmas.List.Edits.{length-paste, drop-paste, length-betwee
 use Rattle.serialize.specs.declared.tables.Counts.{Counts}
 use Rattle.serialize.specs.declared.tables.Packed.{Packed}
 use Rattle.serialize.specs.declared.tables.Link.{Link}
-use Rattle.serialize.specs.declared.tables.Tables.{Tables}
+use Rattle.serialize.specs.declared.tables.Serializer.{Serializer}
 use Rattle.serialize.specs.Objects.{Object, none, Fields, Linked, Once, Stands, Absent}
 use Rattle.serialize.specs.Tables.{hash_of, no_packed, entry_at, start_at, described, object_at, pool_to, open_at, stack_of, sink_of, Chain, Base, Opened, Stacked, Over, Sound, Kept}
 use Rattle.serialize.specs.declared.faults.Fault.TheVariants.{Limit}
@@ -21,7 +21,7 @@ use Rattle.serialize.proofs.Pools.{length-pool}
 abbrev pub under : Counts → ℕ → ℕ → ℕ → Counts
 under f t l n = record { head = f.head; tail = t; lhead = f.lhead; ltail = l; objects = n; depth = f.depth }
 
-module _ (w : List ℕ) (s : Tables) where
+module _ (w : List ℕ) (s : Serializer) where
   pub raised : (d : ℕ) (f : Counts) (t l n : ℕ) → Stacked w s d f → t ≤ f.tail → l ≤ f.ltail → f.objects ≤ n → Stacked w s d (under f t l n) × (stack_of w s d (under f t l n) ≡ stack_of w s d f)
   raised zero f t l n e a b m = (e, refl)
   raised (suc d) f t l n (e, o, q, r) a b m =
@@ -97,7 +97,7 @@ module _ (w : List ℕ) (s : Tables) where
           kept = record { length_work = refl; head = refl; tail = refl; link_head = refl; link_tail = refl; entries = refl; frames = refl };
         }
 
-packs-shared-to : (w : List ℕ) (s : Tables) (c f c' : Counts) (k : ℕ) → Sound w s c → Top w s c f → Stands (open_at w s f c) (pool_to w s c.objects) k → c' ≡ under f c.tail c.ltail c.objects → Packs w w s s c c' k
+pub packs-shared-to : (w : List ℕ) (s : Serializer) (c f c' : Counts) (k : ℕ) → Sound w s c → Top w s c f → Stands (open_at w s f c) (pool_to w s c.objects) k → c' ≡ under f c.tail c.ltail c.objects → Packs w w s s c c' k
 packs-shared-to w s c f c' k sound h st e = subst (λ (d : Counts). Packs w w s s c d k) (sym e) (packs-shared w s c f sound h k st)
 
 -- A part of a list that is moved up to end at t: what stood there is gone, and the rest stays.
@@ -128,14 +128,14 @@ abbrev pub entry-for : Counts → Counts → ℕ → Packed
 entry-for f c mark = record { head = c.tail - (c.head - f.head); tail = c.tail; first = c.ltail - (c.lhead - f.lhead); last = c.ltail; hash = mark }
 
 -- the tables and the counts afterwards
-abbrev pub settled : Tables → Counts → Counts → ℕ → List Link → Tables
+abbrev pub settled : Serializer → Counts → Counts → ℕ → List Link → Serializer
 settled s f c mark ls = record { frames = s.frames; packed = set s.packed c.objects (entry-for f c mark); links = ls }
 
 abbrev pub packed-counts : Counts → Counts → Counts
 packed-counts f c = under f (c.tail - (c.head - f.head)) (c.ltail - (c.lhead - f.lhead)) (c.objects + 1)
 
-module _ (w w' : List ℕ) (s : Tables) (ls : List Link) (c f : Counts) (mark : ℕ) (sound : Sound w s c) (h : Top w s c f) (new : Absent (open_at w s f c) (pool_to w s c.objects)) (room : c.objects < 2048) (hashed : mark ≡ hash_of (open_at w s f c)) (wis : w' ≡ paste w (c.tail - (c.head - f.head)) (drop f.head w) (c.head - f.head)) (lis : ls ≡ paste s.links (c.ltail - (c.lhead - f.lhead)) (drop f.lhead s.links) (c.lhead - f.lhead)) where
-  abbrev s' : Tables
+module _ (w w' : List ℕ) (s : Serializer) (ls : List Link) (c f : Counts) (mark : ℕ) (sound : Sound w s c) (h : Top w s c f) (new : Absent (open_at w s f c) (pool_to w s c.objects)) (room : c.objects < 2048) (hashed : mark ≡ hash_of (open_at w s f c)) (wis : w' ≡ paste w (c.tail - (c.head - f.head)) (drop f.head w) (c.head - f.head)) (lis : ls ≡ paste s.links (c.ltail - (c.lhead - f.lhead)) (drop f.lhead s.links) (c.lhead - f.lhead)) where
+  abbrev s' : Serializer
   s' = settled s f c mark ls
 
   bound : c.tail ≤ length w
@@ -208,7 +208,7 @@ module _ (w w' : List ℕ) (s : Tables) (ls : List Link) (c f : Counts) (mark : 
     once = subst (λ k. Once (pool_to w' s' k)) one (subst Once (sym pool-new) (new, sound.base.once));
   }
 
-  packs-new : Packs w w' s s' c (packed-counts f c) c.objects
+  pub packs-new : Packs w w' s s' c (packed-counts f c) c.objects
   packs-new =
       let k = stacked-kept w w' s s' len f.depth f h.stacked kept in
       let up = raised w' s' f.depth f (c.tail - (c.head - f.head)) (c.ltail - (c.lhead - f.lhead)) (c.objects + 1) k.0 (omega (arith, h.opened.tails)) (omega (arith, h.opened.link_tails)) (omega (arith, h.opened.more)) in
@@ -225,26 +225,25 @@ module _ (w w' : List ℕ) (s : Tables) (ls : List Link) (c f : Counts) (mark : 
         kept = subst (λ (g : Counts). Kept g w s w' s') (sym h.frame) kept;
       }
 
--- the top frame, as it is found
-module _ (w : List ℕ) (s : Tables) (c f : Counts) (sound : Sound w s c) (some : 0 < c.depth) (is : f ≡ start_at s (c.depth - 1)) where
-  pub top-at : Top w s c f
-  top-at = subst (λ (g : Counts). Top w s c g) (sym is) (top_of w s c c.depth sound.stacked refl some)
+module _ (w : List ℕ) (s : Serializer) (c : Counts) (sound : Sound w s c) (level : ℕ) (some : 0 < level) (is : level ≡ c.depth) where
+  pub top-at : Top w s c (start_at s (level - 1))
+  top-at = subst (λ k. Top w s c (start_at s (k - 1))) (sym is) (top_of w s c c.depth sound.stacked refl (omega arith))
 
-  pub sound-over : Over f c (length w)
+  pub sound-over : Over (start_at s (level - 1)) c (length w)
   sound-over = let o = top-at.opened in let b = sound.base in record { heads = o.heads; bytes = b.heads; tails = b.tails; link_heads = o.link_heads; links = b.link_heads; link_tails = b.link_tails; few = b.few }
 
-  pub full : 2048 ≤ c.objects → Absent (open_at w s f c) (pool_to w s c.objects) → Full w w s s c f Limit
+  pub full : 2048 ≤ c.objects → Absent (open_at w s (start_at s (level - 1)) c) (pool_to w s c.objects) → Full w w s s c (start_at s (level - 1)) Limit
   full many new = record {
     fault = refl;
     full = omega (arith, length-pool w s c.objects, sound.base.few);
-    new = subst (λ (x : Object). Absent x (pool_to w s c.objects)) (sym (top-is w s c f sound top-at)) new;
+    new = subst (λ (x : Object). Absent x (pool_to w s c.objects)) (sym (top-is w s c (start_at s (level - 1)) sound top-at)) new;
     work = refl;
     tables = refl;
-    gone = discards w s c sound f some is;
+    gone = discards w s c sound (start_at s (level - 1)) level some is refl;
   }
 
-  pub packs-found : (c' : Counts) (k : ℕ) → Stands (open_at w s f c) (pool_to w s c.objects) k → c' ≡ under f c.tail c.ltail c.objects → Packs w w s s c c' k
-  packs-found c' k st e = packs-shared-to w s c f c' k sound top-at st e
-
-  pub packs-fresh : (w' : List ℕ) (ls : List Link) (mark : ℕ) → Absent (open_at w s f c) (pool_to w s c.objects) → c.objects < 2048 → mark ≡ hash_of (open_at w s f c) → w' ≡ paste w (c.tail - (c.head - f.head)) (drop f.head w) (c.head - f.head) → ls ≡ paste s.links (c.ltail - (c.lhead - f.lhead)) (drop f.lhead s.links) (c.lhead - f.lhead) → Packs w w' s (settled s f c mark ls) c (packed-counts f c) c.objects
-  packs-fresh w' ls mark new room hashed wis lis = packs-new w w' s ls c f mark sound top-at new room hashed wis lis
+pub packs-settled : (w w' : List ℕ) (s s' : Serializer) (c f c' : Counts) (mark : ℕ) → Sound w s c → Top w s c f → Absent (open_at w s f c) (pool_to w s c.objects) → c.objects < 2048 → mark ≡ hash_of (open_at w s f c) → w' ≡ paste w (c.tail - (c.head - f.head)) (drop f.head w) (c.head - f.head) → s' ≡ settled s f c mark (paste s.links (c.ltail - (c.lhead - f.lhead)) (drop f.lhead s.links) (c.lhead - f.lhead)) → c' ≡ packed-counts f c → Packs w w' s s' c c' c.objects
+packs-settled w w' s _ c f c' mark sound h new room hashed wis sis cis =
+    subst (λ (t : Serializer). Packs w w' s t c c' c.objects) (sym sis)
+    (subst (λ (d : Counts). Packs w w' s (settled s f c mark (paste s.links (c.ltail - (c.lhead - f.lhead)) (drop f.lhead s.links) (c.lhead - f.lhead))) c d c.objects) (sym cis)
+    (packs-new w w' s (paste s.links (c.ltail - (c.lhead - f.lhead)) (drop f.lhead s.links) (c.lhead - f.lhead)) c f mark sound h new room hashed wis refl))

@@ -1,11 +1,11 @@
 -- The packed objects by their numbers.
-use Rattle.std.proofs.Common.{◌≡◌, ℕ, zero, suc, ◌-◌, ◌<◌, ◌≤◌, List, Option, None, Some, MatchOption, length, get_or, sym, refl, ap, ◌∙◌, subst, ⊎_elim, arith}
+use Rattle.std.proofs.Common.{◌≡◌, ℕ, zero, suc, ◌-◌, ◌<◌, ◌≤◌, List, length, get_or, sym, refl, ap, ◌∙◌, subst, ⊎_elim, arith}
 use Rattle.std.proofs.lemmas.Bool.{cases_order}
-use Rattle.serialize.specs.declared.tables.Tables.{Tables}
+use Rattle.serialize.specs.declared.tables.Serializer.{Serializer}
 use Rattle.serialize.specs.Objects.{Object, none, number, Stands, Absent}
 use Rattle.serialize.specs.Tables.{end, entry_at, object_at, pool_to, Chain, Entry}
 
-module _ (w : List ℕ) (s : Tables) where
+module _ (w : List ℕ) (s : Serializer) where
   pub length-pool : (n : ℕ) → length (pool_to w s n) ≡ n
   length-pool zero = refl
   length-pool (suc n) = ap suc (length-pool n)
@@ -43,8 +43,3 @@ module _ (w : List ℕ) (s : Tables) where
 
   pub stands_from : (n : ℕ) (x : Object) (k : ℕ) → k < n → object_at w s k ≡ x → Stands x (pool_to w s n) k
   stands_from n x k lt e = (omega (arith, length-pool n), number_of n k lt ∙ e)
-
-  -- what a search for an object among the first n gives
-  pub found-among : (n : ℕ) (x : Object) (r : Option ℕ) → MatchOption r ((k : ℕ) → 0 ≤ k → k < n → object_at w s k ≡ x → ⊥) (λ i. (0 ≤ i) × (i < n) × (object_at w s i ≡ x) × ((k : ℕ) → 0 ≤ k → k < i → object_at w s k ≡ x → ⊥)) → MatchOption r (Absent x (pool_to w s n)) (Stands x (pool_to w s n))
-  found-among n x None h = absent-from n x (λ k lt. h k (omega arith) lt)
-  found-among n x (Some i) h = stands_from n x i h.1 h.2

@@ -10,7 +10,7 @@ use Rattle.serialize.specs.Laying.{field, place, distance, Within, Short, AllSho
 use Rattle.serialize.specs.Trees.{Kids, LinksOf, StandsFor, Readable, Apart, BytesAt, KidsAt, ReadAt, ReadBack, Planted, grafted, Grafted}
 use Rattle.serialize.specs.Trees.Kids.{done, kid}
 use Rattle.serialize.specs.declared.tables.Counts.{Counts}
-use Rattle.serialize.specs.declared.tables.Tables.{Tables}
+use Rattle.serialize.specs.declared.tables.Serializer.{Serializer}
 use Rattle.serialize.specs.Tables.{Sink, end, pool_to, sink_of, Sound}
 use Rattle.serialize.specs.Calls.{top, on_top, joined, linked, Links, Packs}
 use Rattle.serialize.proofs.Packings.{top_of}
@@ -117,7 +117,7 @@ reads p b h a s c = record {
 }
 
 -- the packed objects laid, as a reader finds them
-pub lays-read : (w : List ℕ) (s : Tables) (c : Counts) (out out' : List ℕ) (n : ℕ) → Sound w s c → AllShort (pool_to w s c.objects) → n ≡ end w - c.tail → n ≤ length out → (size (pool_to w s c.objects) ≤ length out → out' ≡ laid (pool_to w s c.objects) ++ drop (size (pool_to w s c.objects)) out) → Lays (pool_to w s c.objects) out out' n × ReadBack (pool_to w s c.objects) out'
+pub lays-read : (w : List ℕ) (s : Serializer) (c : Counts) (out out' : List ℕ) (n : ℕ) → Sound w s c → AllShort (pool_to w s c.objects) → n ≡ end w - c.tail → n ≤ length out → (size (pool_to w s c.objects) ≤ length out → out' ≡ laid (pool_to w s c.objects) ++ drop (size (pool_to w s c.objects)) out) → Lays (pool_to w s c.objects) out out' n × ReadBack (pool_to w s c.objects) out'
 lays-read w s c out out' n sound short e room is =
     let p = pool_to w s c.objects in
     let t = total w s c.objects c.tail c.ltail sound.base.chain in
@@ -159,7 +159,7 @@ grafts p [] l (kid v q cs ks more) bs sub h s = absurd h
 grafts p (m ∷ ls) l (kid v q cs ks more) bs sub (hv, hq, t, e, kh, mh) s = (hv, hq, t, e, kh, grafts p ls l more bs sub mh s)
 
 -- what packing leaves
-pub packs-planted : (w w' : List ℕ) (s s' : Tables) (c c' : Counts) (k : ℕ) → Packs w w' s s' c c' k → Planted (top (sink_of w s c)) (sink_of w s c).pool (sink_of w' s' c').pool k
+pub packs-planted : (w w' : List ℕ) (s s' : Serializer) (c c' : Counts) (k : ℕ) → Packs w w' s s' c c' k → Planted (top (sink_of w s c)) (sink_of w s c).pool (sink_of w' s' c').pool k
 packs-planted w w' s s' c c' k h =
     let x = top (sink_of w s c) in
     let p = (sink_of w s c).pool in
@@ -169,7 +169,7 @@ packs-planted w w' s s' c c' k h =
     h.sink
 
 -- what a link added to the top object leaves
-pub links-grafted : (w : List ℕ) (s s' : Tables) (c c' : Counts) (l : Link) → Sound w s c → Links l w s s' c c' → Grafted (sink_of w s c) (sink_of w s' c') l
+pub links-grafted : (w : List ℕ) (s s' : Serializer) (c c' : Counts) (l : Link) → Sound w s c → Links l w s s' c c' → Grafted (sink_of w s c) (sink_of w s' c') l
 links-grafted w s s' c c' l sound h ks bs sub kids target =
     let t = top_of w s c c.depth sound.stacked refl h.takes.0 in
     let k = sink_of w s c in

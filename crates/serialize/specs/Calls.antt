@@ -22,7 +22,7 @@ use Rattle.serialize.specs.declared.faults.Fault.{Fault}
 use Rattle.serialize.specs.declared.faults.Fault.TheVariants.{Work, Limit}
 use Rattle.serialize.specs.declared.tables.Link.{Link}
 use Rattle.serialize.specs.declared.tables.Counts.{Counts}
-use Rattle.serialize.specs.declared.tables.Tables.{Tables}
+use Rattle.serialize.specs.declared.tables.Serializer.{Serializer}
 use Rattle.serialize.specs.declared.tokens.Token.{Token}
 use Rattle.serialize.specs.Objects.{Object, width_of, none, Stands, Absent, Fields}
 use Rattle.serialize.specs.Tables.{Sink, sink_of, start_at, Sound, Kept}
@@ -49,7 +49,7 @@ grown b o = record { bytes = o.bytes ++ b; links = o.links }
 abbrev pub embedded : List ℕ → Sink → Sink
 embedded b k = record { pool = k.pool; stack = on_top (grown b) k.stack; free = k.free - length b; spare = k.spare }
 
-pub record Embeds (b w w' : List ℕ) (s : Tables) (c c' : Counts) : Type 0 where
+pub record Embeds (b w w' : List ℕ) (s : Serializer) (c c' : Counts) : Type 0 where
   pub room : length b ≤ c.tail - c.head
   pub work : w' ≡ paste w c.head b (length b)
   pub counts : c' ≡ record { head = c.head + length b; tail = c.tail; lhead = c.lhead; ltail = c.ltail; objects = c.objects; depth = c.depth }
@@ -57,13 +57,13 @@ pub record Embeds (b w w' : List ℕ) (s : Tables) (c c' : Counts) : Type 0 wher
   pub sink : sink_of w' s c' ≡ embedded b (sink_of w s c)
   pub kept : Kept c w s w' s
 
-abbrev pub Embedded : List ℕ → List ℕ → List ℕ → Tables → Counts → Counts → Result Unit Fault → Type 0
+abbrev pub Embedded : List ℕ → List ℕ → List ℕ → Serializer → Counts → Counts → Result Unit Fault → Type 0
 Embedded b w w' s c c' r = MatchResult r (λ _. Embeds b w w' s c c') (λ f. (f ≡ Work) × (c.tail - c.head < length b) × (w' ≡ w) × (c' ≡ c))
 
 abbrev pub opened : Sink → Sink
 opened k = record { pool = k.pool; stack = none ∷ k.stack; free = k.free; spare = k.spare }
 
-pub record Pushes (w : List ℕ) (s s' : Tables) (c c' : Counts) (t : Token) : Type 0 where
+pub record Pushes (w : List ℕ) (s s' : Serializer) (c c' : Counts) (t : Token) : Type 0 where
   pub tables : s' ≡ record { frames = slice_set s.frames c.depth (record { start = c }); packed = s.packed; links = s.links }
   pub counts : c' ≡ record { head = c.head; tail = c.tail; lhead = c.lhead; ltail = c.ltail; objects = c.objects; depth = c.depth + 1 }
   pub level : t.level ≡ c'.depth
@@ -72,10 +72,10 @@ pub record Pushes (w : List ℕ) (s s' : Tables) (c c' : Counts) (t : Token) : T
   pub start : start_at s' c.depth ≡ c
   pub kept : Kept c w s w s'
 
-abbrev pub Pushed : List ℕ → Tables → Tables → Counts → Counts → Result Token Fault → Type 0
+abbrev pub Pushed : List ℕ → Serializer → Serializer → Counts → Counts → Result Token Fault → Type 0
 Pushed w s s' c c' r = MatchResult r (Pushes w s s' c c') (λ f. (f ≡ Limit) × (c.depth ≡ 8) × (s' ≡ s) × (c' ≡ c))
 
-pub record Discards (w : List ℕ) (s : Tables) (c c' : Counts) : Type 0 where
+pub record Discards (w : List ℕ) (s : Serializer) (c c' : Counts) : Type 0 where
   pub counts : c' ≡ start_at s (c.depth - 1)
   pub sound : Sound w s c'
   pub stack : (sink_of w s c').stack ≡ drop 1 (sink_of w s c).stack
@@ -92,7 +92,7 @@ shared k = record { pool = k.pool; stack = drop 1 k.stack; free = k.free + lengt
 abbrev pub packed : Sink → Sink
 packed k = record { pool = top k ∷ k.pool; stack = drop 1 k.stack; free = k.free; spare = k.spare }
 
-pub record Packs (w w' : List ℕ) (s s' : Tables) (c c' : Counts) (k : ℕ) : Type 0 where
+pub record Packs (w w' : List ℕ) (s s' : Serializer) (c c' : Counts) (k : ℕ) : Type 0 where
   pub sound : Sound w' s' c'
   pub stands : Stands (top (sink_of w s c)) (sink_of w' s' c').pool k
   pub sink : (Stands (top (sink_of w s c)) (sink_of w s c).pool k × (sink_of w' s' c' ≡ shared (sink_of w s c))) ⊎ (Absent (top (sink_of w s c)) (sink_of w s c).pool × (k ≡ length (sink_of w s c).pool) × (sink_of w' s' c' ≡ packed (sink_of w s c)))
@@ -100,7 +100,7 @@ pub record Packs (w w' : List ℕ) (s s' : Tables) (c c' : Counts) (k : ℕ) : T
   pub same : SameOpen (start_at s (c.depth - 1)) c'
   pub kept : Kept (start_at s (c.depth - 1)) w s w' s'
 
-pub record Full (w w' : List ℕ) (s s' : Tables) (c c' : Counts) (f : Fault) : Type 0 where
+pub record Full (w w' : List ℕ) (s s' : Serializer) (c c' : Counts) (f : Fault) : Type 0 where
   pub fault : f ≡ Limit
   pub full : length (sink_of w s c).pool ≡ 2048
   pub new : Absent (top (sink_of w s c)) (sink_of w s c).pool
@@ -108,7 +108,7 @@ pub record Full (w w' : List ℕ) (s s' : Tables) (c c' : Counts) (f : Fault) : 
   pub tables : s' ≡ s
   pub gone : Discards w s c c'
 
-abbrev pub PopPacked : List ℕ → List ℕ → Tables → Tables → Counts → Counts → Result ℕ Fault → Type 0
+abbrev pub PopPacked : List ℕ → List ℕ → Serializer → Serializer → Counts → Counts → Result ℕ Fault → Type 0
 PopPacked w w' s s' c c' r = MatchResult r (Packs w w' s s' c c') (Full w w' s s' c c')
 
 abbrev pub joined : Link → Object → Object
@@ -118,10 +118,10 @@ abbrev pub linked : Link → Sink → Sink
 linked l k = record { pool = k.pool; stack = on_top (joined l) k.stack; free = k.free; spare = k.spare - 1 }
 
 -- an object is open, and with the link l its links are still fields in its bytes, to packed objects
-abbrev pub Takes : Tables → Counts → Link → Type 0
+abbrev pub Takes : Serializer → Counts → Link → Type 0
 Takes s c l = (0 < c.depth) × Fields 0 (between (start_at s (c.depth - 1)).lhead c.lhead s.links ++ l ∷ []) (c.head - (start_at s (c.depth - 1)).head) c.objects
 
-pub record Links (l : Link) (w : List ℕ) (s s' : Tables) (c c' : Counts) : Type 0 where
+pub record Links (l : Link) (w : List ℕ) (s s' : Serializer) (c c' : Counts) : Type 0 where
   pub room : c.lhead < c.ltail
   pub takes : Takes s c l
   pub tables : s' ≡ record { frames = s.frames; packed = s.packed; links = slice_set s.links c.lhead l }
@@ -130,28 +130,28 @@ pub record Links (l : Link) (w : List ℕ) (s s' : Tables) (c c' : Counts) : Typ
   pub sink : sink_of w s' c' ≡ linked l (sink_of w s c)
   pub kept : Kept c w s w s'
 
-pub record Unlinked (l : Link) (s s' : Tables) (c c' : Counts) (f : Fault) : Type 0 where
+pub record Unlinked (l : Link) (s s' : Serializer) (c c' : Counts) (f : Fault) : Type 0 where
   pub fault : f ≡ Limit
   pub why : (c.lhead ≡ c.ltail) ⊎ (Takes s c l → ⊥)
   pub tables : s' ≡ s
   pub counts : c' ≡ c
 
-abbrev pub LinkAdded : Link → List ℕ → Tables → Tables → Counts → Counts → Result Unit Fault → Type 0
+abbrev pub LinkAdded : Link → List ℕ → Serializer → Serializer → Counts → Counts → Result Unit Fault → Type 0
 LinkAdded l w s s' c c' r = MatchResult r (λ _. Links l w s s' c c') (Unlinked l s s' c c')
 
 -- the bytes of the top object
-abbrev pub TopSize : Tables → Counts → ℕ → Type 0
+abbrev pub TopSize : Serializer → Counts → ℕ → Type 0
 TopSize s c n = (0 < c.depth) × (c.depth ≤ 8) × ((start_at s (c.depth - 1)).head ≤ c.head) × (n ≡ c.head - (start_at s (c.depth - 1)).head)
 
 -- A field of zeros and its link are added to the top object; refused, the counts are as before, and so is what they
 -- count.
-pub record Offsets (v : Width) (t : ℕ) (w w' : List ℕ) (s s' : Tables) (c c' : Counts) : Type 0 where
+pub record Offsets (v : Width) (t : ℕ) (w w' : List ℕ) (s s' : Serializer) (c c' : Counts) : Type 0 where
   pub counts : c' ≡ record { head = c.head + width_of v; tail = c.tail; lhead = c.lhead + 1; ltail = c.ltail; objects = c.objects; depth = c.depth }
   pub sound : Sound w' s' c'
   pub sink : sink_of w' s' c' ≡ linked (record { position = c.head - (start_at s (c.depth - 1)).head; target = t; width = v }) (embedded (replicate (width_of v) 0) (sink_of w s c))
   pub kept : Kept c w s w' s'
 
-pub record TakenBack (w w' : List ℕ) (s s' : Tables) (c c' : Counts) : Type 0 where
+pub record TakenBack (w w' : List ℕ) (s s' : Serializer) (c c' : Counts) : Type 0 where
   pub counts : c' ≡ c
   pub sound : Sound w' s' c'
   pub sink : sink_of w' s' c' ≡ sink_of w s c
@@ -168,7 +168,7 @@ pub record Fits (v : Width) (t : ℕ) (c : Counts) : Type 0 where
 abbrev pub Unfit : Width → ℕ → Counts → Fault → Type 0
 Unfit v t c f = ((f ≡ Work) × (0 < c.depth) × (c.tail - c.head < width_of v)) ⊎ ((f ≡ Limit) × ((c.depth ≡ 0) ⊎ ((c.lhead ≡ c.ltail) ⊎ (c.objects ≤ t))))
 
-abbrev pub OffsetAdded : Width → ℕ → List ℕ → List ℕ → Tables → Tables → Counts → Counts → Result Unit Fault → Type 0
+abbrev pub OffsetAdded : Width → ℕ → List ℕ → List ℕ → Serializer → Serializer → Counts → Counts → Result Unit Fault → Type 0
 OffsetAdded v t w w' s s' c c' r = MatchResult r (λ _. Offsets v t w w' s s' c c') (λ _. TakenBack w w' s s' c c')
 
 -- What each answer to an offset says of the counts.
@@ -181,18 +181,18 @@ written p b o = record { bytes = paste o.bytes p b (length b); links = o.links }
 abbrev pub assigned : ℕ → List ℕ → Sink → Sink
 assigned p b k = record { pool = k.pool; stack = on_top (written p b) k.stack; free = k.free; spare = k.spare }
 
-pub record Assigns (p : ℕ) (b w w' : List ℕ) (s : Tables) (c : Counts) : Type 0 where
+pub record Assigns (p : ℕ) (b w w' : List ℕ) (s : Serializer) (c : Counts) : Type 0 where
   pub within : p + length b ≤ c.head - (start_at s (c.depth - 1)).head
   pub work : w' ≡ paste w ((start_at s (c.depth - 1)).head + p) b (length b)
   pub sound : Sound w' s c
   pub sink : sink_of w' s c ≡ assigned p b (sink_of w s c)
   pub kept : Kept (start_at s (c.depth - 1)) w s w' s
 
-abbrev pub Assigned : ℕ → List ℕ → List ℕ → List ℕ → Tables → Counts → Result Unit Fault → Type 0
+abbrev pub Assigned : ℕ → List ℕ → List ℕ → List ℕ → Serializer → Counts → Result Unit Fault → Type 0
 Assigned p b w w' s c r = MatchResult r (λ _. Assigns p b w w' s c) (λ f. (f ≡ Work) × (c.head - (start_at s (c.depth - 1)).head < p + length b) × (w' ≡ w))
 
 -- Bytes packed as an object of their own, without links: the open objects are as before.
-pub record Copies (b w w' : List ℕ) (s s' : Tables) (c c' : Counts) (k : ℕ) : Type 0 where
+pub record Copies (b w w' : List ℕ) (s s' : Serializer) (c c' : Counts) (k : ℕ) : Type 0 where
   pub sound : Sound w' s' c'
   pub stands : Stands (record { bytes = b; links = [] }) (sink_of w' s' c').pool k
   pub stack : (sink_of w' s' c').stack ≡ (sink_of w s c).stack
@@ -202,10 +202,10 @@ pub record Copies (b w w' : List ℕ) (s s' : Tables) (c c' : Counts) (k : ℕ) 
   pub kept : Kept c w s w' s'
 
 -- why bytes are not packed: no room for them; else no object can be opened, or no number is left for a new one
-abbrev pub Uncopied : List ℕ → List ℕ → Tables → Counts → Fault → Type 0
+abbrev pub Uncopied : List ℕ → List ℕ → Serializer → Counts → Fault → Type 0
 Uncopied b w s c f = ((f ≡ Work) × (c.tail - c.head < length b)) ⊎ ((f ≡ Limit) × ((c.depth ≡ 8) ⊎ ((length (sink_of w s c).pool ≡ 2048) × Absent (record { bytes = b; links = [] }) (sink_of w s c).pool)))
 
-abbrev pub Copied : List ℕ → List ℕ → List ℕ → Tables → Tables → Counts → Counts → Result ℕ Fault → Type 0
+abbrev pub Copied : List ℕ → List ℕ → List ℕ → Serializer → Serializer → Counts → Counts → Result ℕ Fault → Type 0
 Copied b w w' s s' c c' r = MatchResult r (Copies b w w' s s' c c') (λ _. TakenBack w w' s s' c c')
 
 -- x stands in the packed objects p under the number k and nothing is added, or it does not stand there and is added.
@@ -213,5 +213,5 @@ abbrev pub Shared : Object → List Object → List Object → ℕ → Type 0
 Shared x p p' k = (Stands x p k × (p' ≡ p)) ⊎ (Absent x p × (k ≡ length p) × (p' ≡ x ∷ p))
 
 -- What each answer to a copy says of the packed objects and the counts.
-abbrev pub CopyAnswered : List ℕ → List ℕ → List ℕ → Tables → Tables → Counts → Counts → Result ℕ Fault → Type 0
+abbrev pub CopyAnswered : List ℕ → List ℕ → List ℕ → Serializer → Serializer → Counts → Counts → Result ℕ Fault → Type 0
 CopyAnswered b w w' s s' c c' r = MatchResult r (Shared (record { bytes = b; links = [] }) (sink_of w s c).pool (sink_of w' s' c').pool) (Uncopied b w s c)

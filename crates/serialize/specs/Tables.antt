@@ -21,7 +21,7 @@ use Rattle.std.specs.List.{between}
 use Rattle.serialize.specs.declared.tables.Link.{Link}
 use Rattle.serialize.specs.declared.tables.Counts.{Counts}
 use Rattle.serialize.specs.declared.tables.Packed.{Packed}
-use Rattle.serialize.specs.declared.tables.Tables.{Tables}
+use Rattle.serialize.specs.declared.tables.Serializer.{Serializer}
 use Rattle.serialize.specs.Objects.{Object, Fields, Linked, Once}
 
 abbrev pub end : List ℕ → ℕ
@@ -36,26 +36,26 @@ no_counts = record { head = 0; tail = 0; lhead = 0; ltail = 0; objects = 0; dept
 abbrev pub no_packed : Packed
 no_packed = record { head = 0; tail = 0; first = 0; last = 0; hash = 0 }
 
-abbrev pub entry_at : Tables → ℕ → Packed
+abbrev pub entry_at : Serializer → ℕ → Packed
 entry_at s i = slice_index_or s.packed i no_packed
 
-abbrev pub start_at : Tables → ℕ → Counts
+abbrev pub start_at : Serializer → ℕ → Counts
 start_at s d = (get_or s.frames d (record { start = no_counts })).start
 
 abbrev pub described : List ℕ → List Link → Packed → Object
 described w ls p = record { bytes = between p.head p.tail w; links = between p.first p.last ls }
 
-abbrev pub object_at : List ℕ → Tables → ℕ → Object
+abbrev pub object_at : List ℕ → Serializer → ℕ → Object
 object_at w s i = described w s.links (entry_at s i)
 
-abbrev pub pool_to : List ℕ → Tables → ℕ → List Object
+abbrev pub pool_to : List ℕ → Serializer → ℕ → List Object
 pool_to w s zero = []
 pool_to w s (suc i) = object_at w s i ∷ pool_to w s i
 
-abbrev pub open_at : List ℕ → Tables → Counts → Counts → Object
+abbrev pub open_at : List ℕ → Serializer → Counts → Counts → Object
 open_at w s f c = record { bytes = between f.head c.head w; links = between f.lhead c.lhead s.links }
 
-abbrev pub stack_of : List ℕ → Tables → ℕ → Counts → List Object
+abbrev pub stack_of : List ℕ → Serializer → ℕ → Counts → List Object
 stack_of w s zero c = []
 stack_of w s (suc d) c = open_at w s (start_at s d) c ∷ stack_of w s d (start_at s d)
 
@@ -65,14 +65,14 @@ pub record Sink : Type 0 where
   pub free : ℕ
   pub spare : ℕ
 
-abbrev pub sink_of : List ℕ → Tables → Counts → Sink
+abbrev pub sink_of : List ℕ → Serializer → Counts → Sink
 sink_of w s c = record { pool = pool_to w s c.objects; stack = stack_of w s c.depth c; free = c.tail - c.head; spare = c.ltail - c.lhead }
 
-abbrev pub Chain : List ℕ → Tables → ℕ → ℕ → ℕ → Type 0
+abbrev pub Chain : List ℕ → Serializer → ℕ → ℕ → ℕ → Type 0
 Chain w s zero h l = (h ≡ end w) × (l ≡ 4096)
 Chain w s (suc i) h l = ((entry_at s i).head ≡ h) × (h ≤ (entry_at s i).tail) × ((entry_at s i).first ≡ l) × (l ≤ (entry_at s i).last) × ((entry_at s i).hash ≡ hash_of (object_at w s i)) × Chain w s i (entry_at s i).tail (entry_at s i).last
 
-pub record Base (w : List ℕ) (s : Tables) (c : Counts) : Type 0 where
+pub record Base (w : List ℕ) (s : Serializer) (c : Counts) : Type 0 where
   pub heads : c.head ≤ c.tail
   pub tails : c.tail ≤ length w
   pub link_heads : c.lhead ≤ c.ltail
@@ -82,7 +82,7 @@ pub record Base (w : List ℕ) (s : Tables) (c : Counts) : Type 0 where
   pub linked : Linked (pool_to w s c.objects)
   pub once : Once (pool_to w s c.objects)
 
-pub record Opened (w : List ℕ) (s : Tables) (f c : Counts) : Type 0 where
+pub record Opened (w : List ℕ) (s : Serializer) (f c : Counts) : Type 0 where
   pub heads : f.head ≤ c.head
   pub tails : c.tail ≤ f.tail
   pub link_heads : f.lhead ≤ c.lhead
@@ -90,11 +90,11 @@ pub record Opened (w : List ℕ) (s : Tables) (f c : Counts) : Type 0 where
   pub more : f.objects ≤ c.objects
   pub fields : Fields 0 (between f.lhead c.lhead s.links) (c.head - f.head) c.objects
 
-abbrev pub Stacked : List ℕ → Tables → ℕ → Counts → Type 0
+abbrev pub Stacked : List ℕ → Serializer → ℕ → Counts → Type 0
 Stacked w s zero c = c.depth ≡ 0
 Stacked w s (suc d) c = (c.depth ≡ suc d) × Opened w s (start_at s d) c × Base w s (start_at s d) × Stacked w s d (start_at s d)
 
-pub record Sound (w : List ℕ) (s : Tables) (c : Counts) : Type 0 where
+pub record Sound (w : List ℕ) (s : Serializer) (c : Counts) : Type 0 where
   pub shallow : c.depth ≤ 8
   pub frames : length s.frames ≡ 8
   pub entries : length s.packed ≡ 2048
@@ -102,7 +102,7 @@ pub record Sound (w : List ℕ) (s : Tables) (c : Counts) : Type 0 where
   pub base : Base w s c
   pub stacked : Stacked w s c.depth c
 
-pub record Kept (c : Counts) (w : List ℕ) (s : Tables) (w' : List ℕ) (s' : Tables) : Type 0 where
+pub record Kept (c : Counts) (w : List ℕ) (s : Serializer) (w' : List ℕ) (s' : Serializer) : Type 0 where
   pub length_work : length w' ≡ length w
   pub head : take c.head w' ≡ take c.head w
   pub tail : drop c.tail w' ≡ drop c.tail w
@@ -129,7 +129,7 @@ pub record Lies (e : Packed) (n : ℕ) : Type 0 where
   pub link_high : e.last ≤ 4096
 
 -- An entry lies in the buffer and in the tables, past h and l, and its hash is that of its object.
-pub record Entry (w : List ℕ) (s : Tables) (h l i : ℕ) : Type 0 where
+pub record Entry (w : List ℕ) (s : Serializer) (h l i : ℕ) : Type 0 where
   pub low : h ≤ (entry_at s i).head
   pub size : (entry_at s i).head ≤ (entry_at s i).tail
   pub high : (entry_at s i).tail ≤ end w

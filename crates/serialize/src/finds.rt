@@ -1,75 +1,58 @@
 // The look-up of a packed object.
 ghost use Rattle.std.specs.Prelude.{◌≡◌, ◌<◌, length, Decides, MatchOption};
-ghost use Rattle.std.specs.List.{between};
 ghost use Rattle.serialize.specs.Objects.{Stands, Absent};
-ghost use Rattle.serialize.specs.Tables.{object_at, open_at, hash_of, Over};
-ghost use Rattle.serialize.specs.Sinks.{meaning};
+ghost use Rattle.serialize.specs.Tables.{object_at, open_at, pool_to, hash_of, Entry, Lies, Over, Sound};
 
 use crate::hashes::hash;
-use crate::sinks::Serializer;
-use crate::tables::{Counts, Link};
+use crate::tables::{Counts, Link, Packed, Serializer};
 
-// A packed object is asked for by its number, and an open one by the counts at its opening. Each function takes them with
-// their bound, which is of this sink at this moment: a type of such numbers could not hold it, so it is no plainer. An
-// object's bytes, links and hash go together through `find` and `equals` alone; a struct lent there would be no plainer.
-impl Serializer<'_> {
-    // The bytes of the packed object `i`.
-    pub(crate) fn bytes(&self, i: u16) -> &[u8]
-        requires packed { i < self.now.counts.objects }
-        ensures bytes { result.now ≡ (object_at self.now.work.now self.now.tables i).bytes }
+impl Packed {
+    // Whether the entry lies in a work buffer of this size and in the table of links.
+    pub(crate) fn lies(self, size: usize) -> bool
+        ensures lies { Decides result (Lies self size) }
     {
-        let entry = self.tables.packed[i as usize];
-        &self.work[entry.head as usize..entry.tail as usize]
+        let bytes = self.head <= self.tail && self.tail as usize <= size;
+        bytes && self.first <= self.last && self.last <= 4096
     }
+}
 
-    // The links of the packed object `i`.
-    pub(crate) fn links(&self, i: u16) -> &[Link]
-        requires packed { i < self.now.counts.objects }
-        ensures links { result.now ≡ (object_at self.now.work.now self.now.tables i).links }
+impl Serializer {
+    // Whether the packed object `i` has these bytes and links.
+    pub(crate) fn equals(&self, work: &[u8], i: usize, bytes: &[u8], links: &[Link]) -> bool
+        requires place { i < 2048 }
+        ensures same { Entry work.now self.now 0 0 i → Decides result (object_at work.now self.now i ≡ record { bytes = bytes.now; links = links.now }) }
     {
-        let entry = self.tables.packed[i as usize];
-        &self.tables.links[entry.first as usize..entry.last as usize]
-    }
-
-    // Whether the packed object `i` has these bytes and links, whose hash is `mark`.
-    pub(crate) fn equals(&self, i: u16, bytes: &[u8], links: &[Link], mark: u16) -> bool
-        requires packed { i < self.now.counts.objects }
-        requires hashed { mark ≡ hash_of (record { bytes = bytes.now; links = links.now }) }
-        ensures same { Decides result (object_at self.now.work.now self.now.tables i ≡ record { bytes = bytes.now; links = links.now }) }
-    {
-        if self.tables.packed[i as usize].hash != mark {
+        let entry = self.packed[i];
+        let (head, tail) = (entry.head as usize, entry.tail as usize);
+        let (first, last) = (entry.first as usize, entry.last as usize);
+        if !entry.lies(work.len()) {
             return false;
         }
-        self.bytes(i) == bytes && self.links(i) == links
+        &work[head..tail] == bytes && &self.links[first..last] == links
     }
-
-    // The bytes and the links of the object open from `start` on.
-    pub(crate) fn since(&self, start: Counts) -> (&[u8], &[Link])
-        requires over { Over start self.now.counts (length self.now.work.now) }
-        ensures bytes { result.0.now ≡ between start.head self.now.counts.head self.now.work.now }
-        ensures links { result.1.now ≡ between start.lhead self.now.counts.lhead self.now.tables.links }
+    // The number of the packed object that is equal to the one open from `start` to `counts`.
+    pub(crate) fn find(&self, work: &[u8], start: Counts, counts: Counts, mark: u16) -> Option<u16>
+        requires over { Over start counts (length work.now) }
+        ensures found { Sound work.now self.now counts → mark ≡ hash_of (open_at work.now self.now start counts) → MatchOption result (Absent (open_at work.now self.now start counts) (pool_to work.now self.now counts.objects)) (Stands (open_at work.now self.now start counts) (pool_to work.now self.now counts.objects)) }
     {
-        let (head, end) = (start.head as usize, self.counts.head as usize);
-        let (first, last) = (start.lhead as usize, self.counts.lhead as usize);
-        (&self.work[head..end], &self.tables.links[first..last])
+        let (head, end) = (start.head as usize, counts.head as usize);
+        let (first, last) = (start.lhead as usize, counts.lhead as usize);
+        let bytes = &work[head..end];
+        let links = &self.links[first..last];
+        for i in 0..counts.objects {
+            if self.packed[i as usize].hash == mark && self.equals(work, i as usize, bytes, links) {
+                return Some(i);
+            }
+        }
+        None
     }
-
-    // The number of the packed object that is equal to the one open from `start` on, whose hash is `mark`.
-    pub(crate) fn find(&self, start: Counts, mark: u16) -> Option<u16>
-        requires over { Over start self.now.counts (length self.now.work.now) }
-        requires hashed { mark ≡ hash_of (open_at self.now.work.now self.now.tables start self.now.counts) }
-        ensures found { let x = open_at self.now.work.now self.now.tables start self.now.counts in MatchOption result (Absent x (meaning self.now).pool) (Stands x (meaning self.now).pool) }
+    // The hash of the object open from `start` to `counts`.
+    pub(crate) fn mark(&self, work: &[u8], start: Counts, counts: Counts) -> u16
+        requires over { Over start counts (length work.now) }
+        ensures hashed { result ≡ hash_of (open_at work.now self.now start counts) }
     {
-        let (bytes, links) = self.since(start);
-        (0..self.counts.objects).find(|i| self.equals(*i, bytes, links, mark))
-    }
-
-    // The hash of the object open from `start` on.
-    pub(crate) fn mark(&self, start: Counts) -> u16
-        requires over { Over start self.now.counts (length self.now.work.now) }
-        ensures hashed { result ≡ hash_of (open_at self.now.work.now self.now.tables start self.now.counts) }
-    {
-        let (bytes, links) = self.since(start);
-        hash(bytes, links)
+        let (head, end) = (start.head as usize, counts.head as usize);
+        let (first, last) = (start.lhead as usize, counts.lhead as usize);
+        hash(&work[head..end], &self.links[first..last])
     }
 }

@@ -1,75 +1,94 @@
 // The packing of objects.
-ghost use Rattle.std.specs.Prelude.{◌≡◌, ◌-◌, ◌<◌, IfOk};
-ghost use Rattle.serialize.specs.Objects.{Absent};
-ghost use Rattle.serialize.specs.Tables.{hash_of, start_at, open_at};
-ghost use Rattle.serialize.specs.Calls.{top, Packs};
-ghost use Rattle.serialize.specs.Sinks.{meaning, Works, PopPacked};
+ghost use Rattle.std.specs.Prelude.{◌≡◌, ◌+◌, ◌-◌, ◌<◌, length, drop, IfOk, Decides, slice_set};
+ghost use Rattle.std.proofs.Math.Seq.{paste};
+ghost use Rattle.serialize.specs.Tables.{Over, Sound, sink_of};
+ghost use Rattle.serialize.specs.Calls.{top, PopPacked};
 ghost use Rattle.serialize.specs.Trees.{Planted};
 
 use crate::faults::Fault;
-use crate::sinks::Serializer;
-use crate::tables::{Counts, Packed};
+use crate::tables::{Counts, Packed, Serializer};
 use crate::tokens::Token;
 
-impl Serializer<'_> {
-    // Moves the top object, open from `start` on and with the hash `mark`, to the packed ones, as a new one. Answers its
-    // number.
-    pub(crate) fn settle(&mut self, start: Counts, mark: u16) -> u16
-        requires opened { (0 < self.old.counts.depth) × (start ≡ start_at self.old.tables (self.old.counts.depth - 1)) }
-        requires room { self.old.counts.objects < 2048 }
-        requires hashed { mark ≡ hash_of (open_at self.old.work.now self.old.tables start self.old.counts) }
-        requires unequal { Absent (open_at self.old.work.now self.old.tables start self.old.counts) (meaning self.old).pool }
-        ensures same_work { Works self.old self.new }
-        ensures packed { Packs self.old.work.now self.new.work.now self.old.tables self.new.tables self.old.counts self.new.counts result }
+impl Counts {
+    // Whether these lie in a work buffer of this size and in the tables, past those at an object's opening.
+    pub(crate) fn over(self, start: Counts, size: usize) -> bool
+        ensures over { Decides result (Over start self size) }
     {
-        let counts = self.counts;
+        let bytes = start.head <= self.head && self.head <= self.tail && self.tail as usize <= size;
+        let links = start.lhead <= self.lhead && self.lhead <= self.ltail && self.ltail <= 4096;
+        bytes && links && self.objects <= 2048
+    }
+}
+
+impl Serializer {
+    // Moves the object open from `start` to `counts` to the packed ones, as a new one.
+    pub(crate) fn settle(
+        &mut self,
+        work: &mut [u8],
+        start: Counts,
+        counts: Counts,
+        mark: u16,
+    ) -> Counts
+        requires over { Over start counts (length work.old) }
+        requires room { counts.objects < 2048 }
+        ensures work { work.new ≡ paste work.old (counts.tail - (counts.head - start.head)) (drop start.head work.old) (counts.head - start.head) }
+        ensures tables { self.new ≡ record { frames = self.old.frames; packed = slice_set self.old.packed counts.objects (record { head = counts.tail - (counts.head - start.head); tail = counts.tail; first = counts.ltail - (counts.lhead - start.lhead); last = counts.ltail; hash = mark }); links = paste self.old.links (counts.ltail - (counts.lhead - start.lhead)) (drop start.lhead self.old.links) (counts.lhead - start.lhead) } }
+        ensures counts { result ≡ record { head = start.head; tail = counts.tail - (counts.head - start.head); lhead = start.lhead; ltail = counts.ltail - (counts.lhead - start.lhead); objects = counts.objects + 1; depth = start.depth } }
+    {
         let tail = counts.tail - (counts.head - start.head);
         let ltail = counts.ltail - (counts.lhead - start.lhead);
         let (head, end) = (start.head as usize, counts.head as usize);
         let (first, last) = (start.lhead as usize, counts.lhead as usize);
-        self.work.copy_within(head..end, tail as usize);
-        self.tables.links.copy_within(first..last, ltail as usize);
-        self.tables.packed[counts.objects as usize] = Packed {
+        work.copy_within(head..end, tail as usize);
+        self.links.copy_within(first..last, ltail as usize);
+        let at = counts.objects as usize;
+        self.packed[at] = Packed {
             head: tail,
             tail: counts.tail,
             first: ltail,
             last: counts.ltail,
             hash: mark,
         };
-        self.counts = Counts {
+        Counts {
             tail,
             ltail,
             objects: counts.objects + 1,
             ..start
-        };
-        counts.objects
+        }
     }
-
     // Packs the top object, and answers its number: that of the standing object with equal bytes and links, else a new
     // one. Where no number is left, the object is dropped as by a discard.
-    pub fn pop_pack(&mut self, token: Token) -> Result<u16, Fault>
-        ensures same_work { Works self.old self.new }
-        ensures packed { 0 < self.old.counts.depth → PopPacked self.old self.new result }
-        ensures planted { 0 < self.old.counts.depth → IfOk result (Planted (top (meaning self.old)) (meaning self.old).pool (meaning self.new).pool) }
+    pub fn pop_pack(
+        &mut self,
+        work: &mut [u8],
+        counts: &mut Counts,
+        token: Token,
+    ) -> Result<u16, Fault>
+        ensures packed { Sound work.old self.old counts.old → token.level ≡ counts.old.depth → PopPacked work.old work.new self.old self.new counts.old counts.new result }
+        ensures planted { Sound work.old self.old counts.old → token.level ≡ counts.old.depth → IfOk result (Planted (top (sink_of work.old self.old counts.old)) (sink_of work.old self.old counts.old).pool (sink_of work.new self.new counts.new).pool) }
     {
-        let Token { level: _ } = token;
-        let Some(start) = self.opening() else {
+        let Token { level } = token;
+        let start = self.frames[level as usize - 1].start;
+        let grown = *counts;
+        if !grown.over(start, work.len()) {
+            *counts = start;
             return Err(Fault::Work);
-        };
-        let mark = self.mark(start);
-        if let Some(number) = self.find(start, mark) {
-            self.counts = Counts {
+        }
+        let mark = self.mark(work, start, grown);
+        if let Some(number) = self.find(work, start, grown, mark) {
+            *counts = Counts {
                 head: start.head,
                 lhead: start.lhead,
                 depth: start.depth,
-                ..self.counts
+                ..grown
             };
             return Ok(number);
         }
-        if self.counts.objects >= 2048 {
-            self.counts = start;
+        if grown.objects >= 2048 {
+            *counts = start;
             return Err(Fault::Limit);
         }
-        Ok(self.settle(start, mark))
+        *counts = self.settle(work, start, grown, mark);
+        Ok(grown.objects)
     }
 }

@@ -1,11 +1,10 @@
 // The packed objects, to look at.
 ghost use Rattle.std.specs.Prelude.{◌≡◌, ◌<◌, ◌≤◌, MatchOption};
 ghost use Rattle.serialize.specs.Objects.{number as numbered};
-ghost use Rattle.serialize.specs.Sinks.{meaning};
+ghost use Rattle.serialize.specs.Tables.{Sound, sink_of};
 ghost use Rattle.serialize.specs.Laying.{place as placed};
 
-use crate::sinks::Serializer;
-use crate::tables::Link;
+use crate::tables::{Counts, Link, Serializer};
 
 // An object: the place at which it is laid, its bytes and its links.
 #[derive(Clone, Copy)]
@@ -15,19 +14,24 @@ pub struct Piece<'a> {
     pub links: &'a [Link],
 }
 
-impl Serializer<'_> {
+impl Serializer {
     // The packed object of a number.
-    pub fn piece(&self, number: u16) -> Option<Piece<'_>>
-        ensures told { MatchOption result (self.now.counts.objects ≤ number) (λ o. (number < self.now.counts.objects) × (o.place ≡ placed (meaning self.now).pool number) × (o.bytes.now ≡ (numbered (meaning self.now).pool number).bytes) × (o.links.now ≡ (numbered (meaning self.now).pool number).links)) }
+    pub fn piece<'a>(&'a self, work: &'a [u8], counts: Counts, number: u16) -> Option<Piece<'a>>
+        ensures told { Sound work.now self.now counts → MatchOption result (counts.objects ≤ number) (λ o. (number < counts.objects) × (o.place ≡ placed (sink_of work.now self.now counts).pool number) × (o.bytes.now ≡ (numbered (sink_of work.now self.now counts).pool number).bytes) × (o.links.now ≡ (numbered (sink_of work.now self.now counts).pool number).links)) }
     {
-        if number >= self.counts.objects {
+        if number >= counts.objects || number >= 2048 {
             return None;
         }
-        let head = self.tables.packed[number as usize].head;
+        let entry = self.packed[number as usize];
+        let (head, tail) = (entry.head as usize, entry.tail as usize);
+        let (first, last) = (entry.first as usize, entry.last as usize);
+        if head < counts.tail as usize || !entry.lies(work.len()) {
+            return None;
+        }
         Some(Piece {
-            place: (head - self.counts.tail) as usize,
-            bytes: self.bytes(number),
-            links: self.links(number),
+            place: head - counts.tail as usize,
+            bytes: &work[head..tail],
+            links: &self.links[first..last],
         })
     }
 }

@@ -1,15 +1,15 @@
 // Numbers as bytes, the highest byte first.
 ghost use Rattle.std.specs.Prelude.{◌≡◌, ℕ, ◌/◌, ◌%◌, ◌≤◌, List, [], ◌∷◌, take};
-ghost use Rattle.serialize.specs.Sinks.{Works, Embedded};
+ghost use Rattle.serialize.specs.Tables.{Sound};
+ghost use Rattle.serialize.specs.Calls.{Embedded};
 
 use crate::faults::Fault;
-use crate::sinks::Serializer;
+use crate::tables::{Counts, Serializer};
 
 // A number that can be a field: its bytes are the first of four.
 pub trait Scalar: Copy {
     ghost code: { Self → List ℕ };
 
-    // A slice of it could not be handed out, and an array of each size would make the trait's caller generic: no plainer.
     fn raw(self) -> ([u8; 4], usize)
         ensures raw { (result.1 ≤ 4) × (take result.1 result.0 ≡ code self) };
 }
@@ -31,13 +31,17 @@ impl Scalar for u32 {
     }
 }
 
-impl Serializer<'_> {
+impl Serializer {
     // Adds a number to the top object.
-    pub fn embed<S: Scalar>(&mut self, value: S) -> Result<(), Fault>
-        ensures same_work { Works self.old self.new }
-        ensures embedded { Embedded (S.code value) self.old self.new result }
+    pub fn embed<S: Scalar>(
+        &self,
+        work: &mut [u8],
+        counts: &mut Counts,
+        value: S,
+    ) -> Result<(), Fault>
+        ensures embedded { Sound work.old self.now counts.old → Embedded (S.code value) work.old work.new self.now counts.old counts.new result }
     {
         let (raw, size) = value.raw();
-        self.embed_bytes(&raw[0..size])
+        self.embed_bytes(work, counts, &raw[0..size])
     }
 }

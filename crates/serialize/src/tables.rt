@@ -16,8 +16,9 @@ pub struct Link {
     pub width: Width,
 }
 
-// How much of the work buffer and of each table is in use. The counts stand beside the tables, and objects are known by
-// numbers, since there is no heap and a mark sets all counts back at once.
+// How much of the work buffer and of each table is in use: a plain record, handed to the calls beside the buffer and the
+// tables. A type of the three with the fact that they fit was tried: a mark could then hold no counts but those that fit,
+// and older counts could not be asked for.
 #[derive(Clone, Copy, Default)]
 pub struct Counts {
     pub(crate) head: u32,
@@ -44,9 +45,9 @@ pub struct Packed {
     pub(crate) hash: u16,
 }
 
-// The tables of a sink.
+// The tables of a sink, without its buffer and its counts: they serve any buffer.
 #[derive(Drop)]
-pub struct Tables {
+pub struct Serializer {
     pub(crate) frames: [Frame; 8],
     pub(crate) packed: [Packed; 2048],
     pub(crate) links: [Link; 4096],

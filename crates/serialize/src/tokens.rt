@@ -1,4 +1,4 @@
-// The word for an open object, and its depth. It cannot be let go: packing or discarding takes it, and ends the top one.
+// The word for an open object. It cannot be let go: packing or discarding takes it.
 ghost use Rattle.std.specs.Prelude.{◌<◌, ◌≤◌};
 
 pub struct Token {

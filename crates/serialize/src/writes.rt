@@ -1,22 +1,28 @@
 // Bytes of the open object.
-ghost use Rattle.serialize.specs.Sinks.{Works, Embedded};
+ghost use Rattle.std.specs.Prelude.{◌≡◌};
+ghost use Rattle.serialize.specs.Tables.{Sound};
+ghost use Rattle.serialize.specs.Calls.{Embedded};
 
 use crate::faults::Fault;
-use crate::sinks::Serializer;
+use crate::tables::{Counts, Serializer};
 
-impl Serializer<'_> {
+impl Serializer {
     // Adds bytes to the top object.
-    pub fn embed_bytes(&mut self, bytes: &[u8]) -> Result<(), Fault>
-        ensures same_work { Works self.old self.new }
-        ensures embedded { Embedded bytes.now self.old self.new result }
+    pub fn embed_bytes(
+        &self,
+        work: &mut [u8],
+        counts: &mut Counts,
+        bytes: &[u8],
+    ) -> Result<(), Fault>
+        ensures embedded { Sound work.old self.now counts.old → Embedded bytes.now work.old work.new self.now counts.old counts.new result }
     {
-        let (head, tail) = (self.counts.head as usize, self.counts.tail as usize);
-        if tail - head < bytes.len() {
+        let (head, tail) = (counts.head as usize, counts.tail as usize);
+        if tail > work.len() || tail < head || tail - head < bytes.len() {
             return Err(Fault::Work);
         }
         let end = head + bytes.len();
-        self.work[head..end].copy_from_slice(bytes);
-        self.counts.head = end as u32;
+        work[head..end].copy_from_slice(bytes);
+        counts.head = end as u32;
         Ok(())
     }
 }

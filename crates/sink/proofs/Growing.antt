@@ -1,102 +1,95 @@
 -- Steps one after another.
-use Rattle.std.proofs.Common.{◌≡◌, ℕ, ◌+◌, ◌-◌, ◌<◌, List, Ok, Err, Result, sym, ap, ◌∙◌, subst, arith}
+use Rattle.std.proofs.Common.{◌≡◌, ℕ, ◌+◌, ◌-◌, List, Ok, Err, Result, sym, refl, ap, ◌∙◌, subst, arith}
 use Rattle.serialize.specs.declared.faults.Fault.{Fault}
-use Rattle.serialize.specs.declared.sinks.Serializer.{Serializer}
 use Rattle.serialize.specs.declared.tables.Width.{Width}
 use Rattle.serialize.specs.declared.tables.Counts.{Counts}
-use Rattle.serialize.specs.declared.tables.Tables.{Tables}
+use Rattle.serialize.specs.declared.tables.Serializer.{Serializer}
 use Rattle.serialize.specs.declared.tokens.Token.{Token}
-use Rattle.serialize.specs.Tables.{start_at, sink_of, Sound, Kept}
-use Rattle.serialize.specs.Calls.{Before, SameOpen}
-use Rattle.serialize.specs.Sinks.{Embedded, Pushed, Discards, PopPacked, OffsetAdded, TakenBack, Copied}
+use Rattle.serialize.specs.Tables.{start_at, Sound, Kept}
+use Rattle.serialize.specs.Calls.{Before, SameOpen, Pushes, Discards, Embeds, Offsets, Packs, Full, TakenBack, Copied}
 use Rattle.serialize.proofs.Keeps.{start-kept}
 use Rattle.serialize.proofs.Marking.{kept_refl, kept_trans, kept-earlier, sound-kept}
 use Rattle.sink.specs.Steps.{Grown, Rooted}
 
-abbrev Keeps : Serializer → Serializer → Type 0
-Keeps k k' = Kept k.counts k.work.now k.tables k'.work.now k'.tables
-
-keeps-to : (k k₁ k₂ : Serializer) → Keeps k k₁ → k₂.work.now ≡ k₁.work.now → k₂.tables ≡ k₁.tables → Keeps k k₂
-keeps-to k k₁ k₂ h ws ss =
-    subst (λ (y : Tables). Kept k.counts k.work.now k.tables k₂.work.now y) (sym ss) (subst (λ (y : List ℕ). Kept k.counts k.work.now k.tables y k₁.tables) (sym ws) h)
-
 before_same : (a b : Counts) → b ≡ a → Before a b
 before_same a b e = subst (λ (x : Counts). Before a x) (sym e) (record { heads = omega arith; tails = omega arith; link_heads = omega arith; link_tails = omega arith; more = omega arith; depths = omega arith })
 
--- nothing but counts put back to what they were
-pub back_from : (k k₁ k₂ : Serializer) → Keeps k k₁ → k₂.work.now ≡ k₁.work.now → k₂.tables ≡ k₁.tables → k₂.counts ≡ k.counts → TakenBack k k₂
-back_from k k₁ k₂ h ws ss cs =
-    let h₂ = keeps-to k k₁ k₂ h ws ss in
-    let z = sound-kept k.counts k₂.counts k.work.now k₂.work.now k.tables k₂.tables k.sound k₂.sound h₂ in
-    record { counts = cs; sound = k₂.sound; sink = ap (sink_of k₂.work.now k₂.tables) cs ∙ z.1; kept = h₂ }
+pub grown-refl : (w : List ℕ) (s : Serializer) (c : Counts) → Sound w s c → Grown w w s s c c
+grown-refl w s c sound = record { sound = sound; before = before_same c c refl; depth = refl; kept = kept_refl c w s }
 
--- the counts of a mark are still sound
-pub still_sound : (k k₁ : Serializer) (saved : Counts) → Keeps k k₁ → saved ≡ k.counts → Sound k₁.work.now k₁.tables saved
-still_sound k k₁ saved h e =
-    subst (λ (x : Counts). Sound k₁.work.now k₁.tables x) (sym e) (sound-kept k.counts k₁.counts k.work.now k₁.work.now k.tables k₁.tables k.sound k₁.sound h).0
+pub grown-same : (w w' : List ℕ) (s : Serializer) (c c' : Counts) → Sound w s c → w' ≡ w → c' ≡ c → Grown w w' s s c c'
+grown-same w w' s c c' sound e f =
+    subst (λ (y : List ℕ). Grown w y s s c c') (sym e) (subst (λ (x : Counts). Grown w w s s c x) (sym f) (grown-refl w s c sound))
 
-pub grown-trans : (k k₁ k₂ : Serializer) → Grown k k₁ → Grown k₁ k₂ → Grown k k₂
-grown-trans k k₁ k₂ a b =
+pub copied-kept : (b w w' : List ℕ) (s s' : Serializer) (c c' : Counts) (r : Result ℕ Fault) → Copied b w w' s s' c c' r → Sound w' s' c' × (c'.depth ≡ c.depth) × Kept c w s w' s'
+copied-kept b w w' s s' c c' (Ok k) h = (h.sound, h.same.2, h.kept)
+copied-kept b w w' s s' c c' (Err f) h = (h.sound, ap (λ (x : Counts). x.depth) h.counts, h.kept)
+
+pub grown-trans : (w w₁ w₂ : List ℕ) (s s₁ s₂ : Serializer) (c c₁ c₂ : Counts) → Grown w w₁ s s₁ c c₁ → Grown w₁ w₂ s₁ s₂ c₁ c₂ → Grown w w₂ s s₂ c c₂
+grown-trans w w₁ w₂ s s₁ s₂ c c₁ c₂ a b =
     let p = a.before in
     let q = b.before in
     record {
+      sound = b.sound;
       before = record { heads = omega (arith, p.heads, q.heads); tails = omega (arith, p.tails, q.tails); link_heads = omega (arith, p.link_heads, q.link_heads); link_tails = omega (arith, p.link_tails, q.link_tails); more = omega (arith, p.more, q.more); depths = omega (arith, p.depths, q.depths) };
       depth = b.depth ∙ a.depth;
-      kept = kept_trans k.counts k.work.now k₁.work.now k₂.work.now k.tables k₁.tables k₂.tables a.kept (kept-earlier k.counts k₁.counts k₁.work.now k₂.work.now k₁.tables k₂.tables p b.kept);
+      kept = kept_trans c w w₁ w₂ s s₁ s₂ a.kept (kept-earlier c c₁ w₁ w₂ s₁ s₂ p b.kept);
     }
 
-pub grown-same : (k k' : Serializer) → k'.work.now ≡ k.work.now → k'.tables ≡ k.tables → k'.counts ≡ k.counts → Grown k k'
-grown-same k k' ws ss cs =
-    record { before = before_same k.counts k'.counts cs; depth = ap (λ (x : Counts). x.depth) cs; kept = keeps-to k k k' (kept_refl k.counts k.work.now k.tables) ws ss }
-
-pub grown-back : (k k' : Serializer) → TakenBack k k' → Grown k k'
-grown-back k k' b = record { before = before_same k.counts k'.counts b.counts; depth = ap (λ (x : Counts). x.depth) b.counts; kept = b.kept }
-
-pub grown-embeds : (b : List ℕ) (k k' : Serializer) → Embedded b k k' (Ok tt) → Grown k k'
-grown-embeds b k k' (ss, e) = record {
-  before = subst (λ (x : Counts). Before k.counts x) (sym e.counts) (record { heads = omega arith; tails = omega arith; link_heads = omega arith; link_tails = omega arith; more = omega arith; depths = omega arith });
-  depth = ap (λ (x : Counts). x.depth) e.counts;
-  kept = subst (λ (y : Tables). Kept k.counts k.work.now k.tables k'.work.now y) (sym ss) e.kept;
-}
-
-pub grown-offsets : (v : Width) (t : ℕ) (k k' : Serializer) → OffsetAdded v t k k' (Ok tt) → Grown k k'
-grown-offsets v t k k' e = record {
-  before = subst (λ (x : Counts). Before k.counts x) (sym e.counts) (record { heads = omega arith; tails = omega arith; link_heads = omega arith; link_tails = omega arith; more = omega arith; depths = omega arith });
+pub grown-embeds : (b w w' : List ℕ) (s : Serializer) (c c' : Counts) → Embeds b w w' s c c' → Grown w w' s s c c'
+grown-embeds b w w' s c c' e = record {
+  sound = e.sound;
+  before = subst (λ (x : Counts). Before c x) (sym e.counts) (record { heads = omega arith; tails = omega arith; link_heads = omega arith; link_tails = omega arith; more = omega arith; depths = omega arith });
   depth = ap (λ (x : Counts). x.depth) e.counts;
   kept = e.kept;
 }
 
-pub copied-kept : (b : List ℕ) (k k' : Serializer) (r : Result ℕ Fault) → Copied b k k' r → (k'.counts.depth ≡ k.counts.depth) × Keeps k k'
-copied-kept b k k' (Ok n) h = (h.same.2, h.kept)
-copied-kept b k k' (Err f) h = (ap (λ (x : Counts). x.depth) h.counts, h.kept)
+pub grown-offsets : (v : Width) (t : ℕ) (w w' : List ℕ) (s s' : Serializer) (c c' : Counts) → Offsets v t w w' s s' c c' → Grown w w' s s' c c'
+grown-offsets v t w w' s s' c c' e = record {
+  sound = e.sound;
+  before = subst (λ (x : Counts). Before c x) (sym e.counts) (record { heads = omega arith; tails = omega arith; link_heads = omega arith; link_tails = omega arith; more = omega arith; depths = omega arith });
+  depth = ap (λ (x : Counts). x.depth) e.counts;
+  kept = e.kept;
+}
+
+pub grown-back : (w w' : List ℕ) (s s' : Serializer) (c c' : Counts) → TakenBack w w' s s' c c' → Grown w w' s s' c c'
+grown-back w w' s s' c c' b = record { sound = b.sound; before = before_same c c' b.counts; depth = ap (λ (x : Counts). x.depth) b.counts; kept = b.kept }
+
+-- counts put back after steps
+pub back_from : (w w' : List ℕ) (s s' : Serializer) (c c₁ c' : Counts) → Sound w s c → Grown w w' s s' c c₁ → c' ≡ c → TakenBack w w' s s' c c'
+back_from w w' s s' c c₁ c' sound g e =
+    let z = sound-kept c c₁ w w' s s' sound g.sound g.kept in
+    subst (λ (x : Counts). TakenBack w w' s s' c x) (sym e) (record { counts = refl; sound = z.0; sink = z.1; kept = g.kept })
 
 -- an object opened, and something done since
-module _ (k k₁ k₂ : Serializer) (t : Token) (p : Pushed k k₁ (Ok t)) (depth : k₂.counts.depth ≡ k₁.counts.depth) (h : Keeps k₁ k₂) where
-  deep : k₁.counts.depth ≡ k.counts.depth + 1
-  deep = ap (λ (x : Counts). x.depth) p.1.counts
+module _ (w w' : List ℕ) (s s₁ s₂ : Serializer) (c c₁ c₂ : Counts) (t : Token) (sound : Sound w s c) (p : Pushes w s s₁ c c₁ t) (more : Sound w' s₂ c₂) (depth : c₂.depth ≡ c₁.depth) (k : Kept c₁ w s₁ w' s₂) where
+  deep : c₁.depth ≡ c.depth + 1
+  deep = ap (λ (x : Counts). x.depth) p.counts
 
-  pub some : 0 < k₂.counts.depth
-  some = omega (arith, depth, deep)
+  pub level-is : t.level ≡ c₂.depth
+  level-is = p.level ∙ sym depth
 
-  opening : start_at k₂.tables (k₂.counts.depth - 1) ≡ k.counts
+  pub opening : start_at s₂ (c₂.depth - 1) ≡ c
   opening =
-      let z : k₂.counts.depth - 1 ≡ k.counts.depth = omega (arith, depth, deep) in
-      ap (start_at k₂.tables) z ∙ start-kept k₁.work.now k₂.work.now k₁.tables k₂.tables h.length_work k₁.counts k.counts.depth (omega (arith, deep)) h ∙ p.1.start
+      let z : c₂.depth - 1 ≡ c.depth = omega (arith, depth, deep) in
+      ap (start_at s₂) z ∙ start-kept w w' s₁ s₂ k.length_work c₁ c.depth (omega (arith, deep)) k ∙ p.start
 
-  since : Keeps k k₂
-  since =
-      let first = subst (λ (y : List ℕ). Kept k.counts k.work.now k.tables y k₁.tables) (sym p.0) p.1.kept in
-      let before = subst (λ (x : Counts). Before k.counts x) (sym p.1.counts) (record { heads = omega arith; tails = omega arith; link_heads = omega arith; link_tails = omega arith; more = omega arith; depths = omega arith }) in
-      kept_trans k.counts k.work.now k₁.work.now k₂.work.now k.tables k₁.tables k₂.tables first (kept-earlier k.counts k₁.counts k₁.work.now k₂.work.now k₁.tables k₂.tables before h)
+  pub since : Kept c w s w' s₂
+  since = kept_trans c w w w' s s₁ s₂ p.kept (kept-earlier c c₁ w w' s₁ s₂ (subst (λ (x : Counts). Before c x) (sym p.counts) (record { heads = omega arith; tails = omega arith; link_heads = omega arith; link_tails = omega arith; more = omega arith; depths = omega arith })) k)
 
-  pub dropped : (k₃ : Serializer) → Discards k₂ k₃ → TakenBack k k₃
-  dropped k₃ d = back_from k k₂ k₃ since d.0 d.1 (d.2.counts ∙ opening)
+  pub dropped : (c' : Counts) → Discards w' s₂ c₂ c' → TakenBack w w' s s₂ c c'
+  dropped c' d =
+      let e : c' ≡ c = d.counts ∙ opening in
+      let z = sound-kept c c₂ w w' s s₂ sound more since in
+      subst (λ (x : Counts). TakenBack w w' s s₂ c x) (sym e) (record { counts = refl; sound = z.0; sink = z.1; kept = since })
 
-  pub rooted : (k₃ : Serializer) (n : ℕ) → PopPacked k₂ k₃ (Ok n) → Rooted k k₃
-  rooted k₃ n q = record {
-    same = subst (λ (x : Counts). SameOpen x k₃.counts) opening q.same;
-    kept = kept_trans k.counts k.work.now k₂.work.now k₃.work.now k.tables k₂.tables k₃.tables since (subst (λ (x : Counts). Kept x k₂.work.now k₂.tables k₃.work.now k₃.tables) opening q.kept);
+  pub rooted : (w₂ : List ℕ) (s₃ : Serializer) (c' : Counts) (n : ℕ) → Packs w' w₂ s₂ s₃ c₂ c' n → Rooted w w₂ s s₃ c c'
+  rooted w₂ s₃ c' n h = record {
+    sound = h.sound;
+    same = subst (λ (x : Counts). SameOpen x c') opening h.same;
+    kept = kept_trans c w w' w₂ s s₂ s₃ since (subst (λ (x : Counts). Kept x w' s₂ w₂ s₃) opening h.kept);
   }
 
-  pub full_back : (k₃ : Serializer) (f : Fault) → PopPacked k₂ k₃ (Err f) → TakenBack k k₃
-  full_back k₃ f q = back_from k k₂ k₃ since q.work q.tables (q.gone.counts ∙ opening)
+  pub full_back : (w₂ : List ℕ) (s₃ : Serializer) (c' : Counts) (f : Fault) → Full w' w₂ s₂ s₃ c₂ c' f → TakenBack w w₂ s s₃ c c'
+  full_back w₂ s₃ c' f h =
+      subst (λ (y : List ℕ). TakenBack w y s s₃ c c') (sym h.work) (subst (λ (y : Serializer). TakenBack w w' s y c c') (sym h.tables) (dropped c' h.gone))

@@ -9,7 +9,7 @@ mod tree;
 
 use halt::Halt;
 use hex::Hex;
-use serialize::{Piece, Serializer};
+use serialize::{Counts, Piece, Serializer};
 use std::process::ExitCode;
 use tree::{pack_and_discard, pack_root};
 
@@ -26,10 +26,11 @@ fn main(rt: HostRuntime) -> ExitCode {
 // Packs the tree, and shows each step, the objects and the laid bytes.
 fn show(rt: &HostRuntime) -> Result<(), Halt> {
     let mut work = [0; 64];
-    let mut sink = Serializer::new(&mut work);
-    let cafe = sink.copy_object(&[0xca, 0xfe])?;
-    let three = sink.copy_object(&[1, 2, 3])?;
-    let again = sink.copy_object(&[0xca, 0xfe])?;
+    let mut counts = Counts::new(&work);
+    let mut tables = Serializer::new();
+    let cafe = tables.copy_object(&mut work, &mut counts, &[0xca, 0xfe])?;
+    let three = tables.copy_object(&mut work, &mut counts, &[1, 2, 3])?;
+    let again = tables.copy_object(&mut work, &mut counts, &[0xca, 0xfe])?;
     println!(rt; "packed ca fe as object {cafe}, 01 02 03 as object {three}")?;
     let how = if again == cafe {
         "shared"
@@ -37,9 +38,9 @@ fn show(rt: &HostRuntime) -> Result<(), Halt> {
         "not shared"
     };
     println!(rt; "packed ca fe again as object {again}: {how}")?;
-    let gone = pack_and_discard(&mut sink, &[0xde, 0xad])?;
+    let gone = pack_and_discard(&mut tables, &mut work, &mut counts, &[0xde, 0xad])?;
     println!(rt; "packed de ad as object {gone} in an object that was discarded: both are gone")?;
-    let (root, refused) = pack_root(&mut sink, [cafe, three], 9)?;
+    let (root, refused) = pack_root(&mut tables, &mut work, &mut counts, [cafe, three], 9)?;
     match refused {
         Some(fault) => {
             let number = fault.number();
@@ -48,15 +49,20 @@ fn show(rt: &HostRuntime) -> Result<(), Halt> {
         None => println!(rt; "took a record that leads to object 9")?,
     }
     println!(rt; "packed the root as object {root}")?;
-    let objects = show_objects(rt, &sink)?;
-    show_laid(rt, &sink, objects)
+    let objects = show_objects(rt, &tables, &work, counts)?;
+    show_laid(rt, &tables, &work, counts, objects)
 }
 
 // Each packed object, with its bytes and its links. Answers how many there are.
-fn show_objects(rt: &HostRuntime, sink: &Serializer<'_>) -> Result<u16, Halt> {
+fn show_objects<'a>(
+    rt: &HostRuntime,
+    tables: &'a Serializer,
+    work: &'a [u8],
+    counts: Counts,
+) -> Result<u16, Halt> {
     println!(rt; "\nobjects")?;
     for number in 0..2048 {
-        match sink.piece(number) {
+        match tables.piece(work, counts, number) {
             Some(piece) => show_object(rt, piece, number)?,
             None => return Ok(number),
         }
@@ -77,12 +83,18 @@ fn show_object(rt: &HostRuntime, piece: Piece<'_>, number: u16) -> Result<(), Ha
 }
 
 // The laid bytes, by the objects that they come from, the newest first.
-fn show_laid(rt: &HostRuntime, sink: &Serializer<'_>, objects: u16) -> Result<(), Halt> {
+fn show_laid<'a>(
+    rt: &HostRuntime,
+    tables: &'a Serializer,
+    work: &'a [u8],
+    counts: Counts,
+    objects: u16,
+) -> Result<(), Halt> {
     let mut out = [0; 64];
-    let size = sink.lay(&mut out)?;
+    let size = tables.lay(work, counts, &mut out)?;
     println!(rt; "\nlaid in {size} bytes")?;
     for number in (0..objects).rev() {
-        if let Some(piece) = sink.piece(number) {
+        if let Some(piece) = tables.piece(work, counts, number) {
             show_part(rt, &out, piece, number)?;
         }
     }

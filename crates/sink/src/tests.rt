@@ -1,17 +1,18 @@
 // The sink on small examples.
-use serialize::{Fault, Serializer, Width};
+use serialize::{Counts, Fault, Serializer, Width};
 use std::test::Fail;
 
 // Packs the same bytes twice, and lays what stands.
 fn twins(out: &mut [u8]) -> Result<usize, Fault> {
     let mut work = [0u8; 64];
-    let mut sink = Serializer::new(&mut work);
-    let first = sink.copy_object(b"ab")?;
-    let second = sink.copy_object(b"ab")?;
+    let mut counts = Counts::new(&work);
+    let mut sink = Serializer::new();
+    let first = sink.copy_object(&mut work, &mut counts, b"ab")?;
+    let second = sink.copy_object(&mut work, &mut counts, b"ab")?;
     if first != second {
         return Err(Fault::Limit);
     }
-    sink.lay(out)
+    sink.lay(&work, counts, out)
 }
 
 #[test]
@@ -31,19 +32,20 @@ fn out_too_short(rt: HostRuntime) {
 // Packs a root of a number and an offset, and lays it before what the offset leads to.
 fn linked(out: &mut [u8]) -> Result<usize, Fault> {
     let mut work = [0u8; 64];
-    let mut sink = Serializer::new(&mut work);
-    let leaf = sink.copy_object(b"ab")?;
-    let token = sink.push()?;
-    if let Err(fault) = sink.embed(5u16) {
-        sink.pop_discard(token);
+    let mut counts = Counts::new(&work);
+    let mut sink = Serializer::new();
+    let leaf = sink.copy_object(&mut work, &mut counts, b"ab")?;
+    let token = sink.push(&mut counts)?;
+    if let Err(fault) = sink.embed(&mut work, &mut counts, 5u16) {
+        sink.pop_discard(&mut counts, token);
         return Err(fault);
     }
-    if let Err(fault) = sink.add_offset(Width::Two, leaf) {
-        sink.pop_discard(token);
+    if let Err(fault) = sink.add_offset(&mut work, &mut counts, Width::Two, leaf) {
+        sink.pop_discard(&mut counts, token);
         return Err(fault);
     }
-    sink.pop_pack(token)?;
-    sink.lay(out)
+    sink.pop_pack(&mut work, &mut counts, token)?;
+    sink.lay(&work, counts, out)
 }
 
 #[test]
