@@ -1,5 +1,5 @@
 // The sets that are kept, as words give them.
-ghost use Rattle.std.specs.Prelude.{◌≡◌, ℕ, ◌≤◌, length, IfOk};
+ghost use Rattle.std.specs.Prelude.{ℕ, ◌≤◌, length, IfOk};
 ghost use Rattle.keys.specs.Slots.{Ascending};
 ghost use Rattle.numbering.specs.Numbering.{Kept};
 
@@ -12,28 +12,13 @@ use numbering::{MAX_FEATURES, MAX_LOOKUPS, MAX_SCRIPTS};
 use source::Source;
 use std::alloc::{AllocError, Global};
 
-// The lookups, features and script tags that are kept.
+// The lookups, features and script tags that are kept. That `keep` gives kept sets is its clause and no fact of the type,
+// so that whoever has them may change them.
 #[derive(Drop)]
 pub struct KeptSets {
     pub lookups: Vec<u16>,
     pub features: Vec<u16>,
     pub scripts: Vec<Tag>,
-    ghost sets: { Kept lookups.items features.items scripts.items },
-}
-
-impl KeptSets {
-    // The sets, lent to a numbering.
-    pub fn lent(&self) -> numbering::KeptSets<'_>
-        ensures lookups { result.lookups.now ≡ self.now.lookups.items }
-        ensures features { result.features.now ≡ self.now.features.items }
-        ensures scripts { result.scripts.now ≡ self.now.scripts.items }
-    {
-        numbering::KeptSets {
-            lookups: self.lookups.as_slice(),
-            features: self.features.as_slice(),
-            scripts: self.scripts.as_slice(),
-        }
-    }
 }
 
 // One of the sets: what a part of its list is, how many it may have, what `all` means, and what is wrong with a word.

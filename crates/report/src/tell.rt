@@ -1,10 +1,14 @@
+ghost use Rattle.std.specs.Prelude.{map};
+ghost use Rattle.numbering.specs.Numbering.{Kept, Answered};
+ghost use Rattle.numbering.specs.Systems.{code_of};
+
 use crate::choices::{KeptSets, keep};
 use crate::faults::Untold;
 use crate::features::{Account, first_unread};
 use crate::systems::write_pairs;
 use console::{Page, SetWords};
-use numbering::number_kept;
-use source::Source;
+use numbering::Numbering;
+use source::{Refusal, Source};
 use std::alloc::{AllocError, Global};
 
 fn write_sizes(page: &mut Page, sets: &KeptSets) -> Result<(), AllocError> {
@@ -28,6 +32,19 @@ fn write_told<S: Source>(page: &mut Page, account: &Account<'_, S>) -> Result<()
     writeln!(page, "Features retained: {retained}, under {own} numbers")
 }
 
+// The numbering of kept sets.
+fn number_kept<S: Source>(source: &S, sets: &KeptSets) -> Result<Numbering, Refusal>
+    requires { Kept sets.now.lookups.items sets.now.features.items sets.now.scripts.items }
+    ensures { Answered (S.reading source.now) sets.now.lookups.items sets.now.features.items (map code_of sets.now.scripts.items) result }
+{
+    let kept = numbering::KeptSets {
+        lookups: sets.lookups.as_slice(),
+        features: sets.features.as_slice(),
+        scripts: sets.scripts.as_slice(),
+    };
+    numbering::number_kept(source, &kept)
+}
+
 // Tells under a heading what becomes of the features of a table, of which three words say what is kept.
 pub fn tell_numbering<'a, S: Source>(
     heap: Global,
@@ -37,7 +54,7 @@ pub fn tell_numbering<'a, S: Source>(
 ) -> Result<Page, Untold<'a>> {
     let sets = keep(heap, source, words)?;
     // Of kept sets a numbering is refused for one reason alone.
-    let numbering = number_kept(source, &sets.lent()).map_err(|_| Untold::TooManyPairs)?;
+    let numbering = number_kept(source, &sets).map_err(|_| Untold::TooManyPairs)?;
     let mut page = Page::new(heap);
     page.line(heading)?;
     page.end()?;
