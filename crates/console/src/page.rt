@@ -89,7 +89,8 @@ impl Page {
         self.put_item(before, text.as_str())
     }
 
-    fn put_item(&mut self, before: u16, item: &str) -> Result<(), AllocError>
+    // The same of a text, which is not copied first.
+    pub fn put_item(&mut self, before: u16, item: &str) -> Result<(), AllocError>
         ensures text { OnOk result (written self.new ≡ written self.old ++ item_text self.old.column before item.now) }
         ensures column { OnOk result (self.new.column ≡ item_column self.old.column before item.now) }
     {
